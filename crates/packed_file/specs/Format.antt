@@ -1,0 +1,73 @@
+-- The packed file of a chain: the mark, two bytes, and then the body, fields of bits.
+-- Places in a body count its bits from the end of the mark.
+use mathlib.Core.Path.{_≡_}
+use mathlib.Core.List.{List, [], _∷_, _++_}
+use Prim.Native.Nat.{ℕ, zero, suc, _+_, _-_, _*_, _≤_, _<_}
+use lib.ListN.{length}
+use Rattle.std.specs.Joined.{joined}
+use Rattle.bits.specs.Fields.{field}
+use Rattle.bits.specs.Mirror.{mirrored}
+use Rattle.chain.specs.Markov.{Row, Markov}
+
+-- What a chain's file holds: fields, each a width and a value, in the order of the file.
+abbrev pub edge-fields : ℕ × ℕ → List (ℕ × ℕ)
+edge-fields e = (10, e .0) ∷ (16, e .1) ∷ []
+
+-- in the file the proposition a is the highest bit of its field
+abbrev pub row-fields : Row → List (ℕ × ℕ)
+row-fields r = (16, mirrored 16 (r .propositions)) ∷ (11, length (r .edges)) ∷ joined edge-fields (r .edges)
+
+abbrev pub header-fields : Markov → List (ℕ × ℕ)
+header-fields c = (10, length (c .rows) - 1) ∷ (16, c .denominator) ∷ (10, c .start) ∷ []
+
+abbrev pub layout : Markov → List (ℕ × ℕ)
+layout c = header-fields c ++ joined row-fields (c .rows)
+
+-- from place p on stand these fields without gaps, and then zero bits that fill the last byte
+abbrev pub Holds : List ℕ → ℕ → List (ℕ × ℕ) → Type 0
+Holds bs p [] = (p ≤ 8 * length bs) × (8 * length bs < p + 8) × (field bs p (8 * length bs - p) ≡ 0)
+Holds bs p (f ∷ fs) = (p + f .0 ≤ 8 * length bs) × (field bs p (f .0) ≡ f .1) × Holds bs (p + f .0) fs
+
+-- the mark, and after it a body
+abbrev pub marked : List ℕ → List ℕ
+marked body = 0xFE ∷ 0xFF ∷ body
+
+-- the bytes are the file of the chain
+abbrev pub Spells : List ℕ → Markov → Type 0
+Spells bytes c = (body : List ℕ) × (bytes ≡ marked body) × Holds body 0 (layout c)
+
+-- What a body says at its places, with no question whether it is a chain's.
+unfoldable pub edges-at : List ℕ → ℕ → ℕ → List (ℕ × ℕ)
+edges-at bs p zero = []
+edges-at bs p (suc k) = (field bs p 10, field bs (p + 10) 16) ∷ edges-at bs (p + 10 + 16) k
+
+abbrev pub count-at : List ℕ → ℕ → ℕ
+count-at bs p = field bs (p + 16) 11
+
+abbrev pub row-at : List ℕ → ℕ → Row
+row-at bs p = record { propositions = mirrored 16 (field bs p 16); edges = edges-at bs (p + 16 + 11) (count-at bs p) }
+
+-- where the row after the row at p begins
+abbrev pub after-row : List ℕ → ℕ → ℕ
+after-row bs p = p + 16 + 11 + 26 * count-at bs p
+
+-- the k rows from p on
+unfoldable pub rows-at : List ℕ → ℕ → ℕ → List Row
+rows-at bs p zero = []
+rows-at bs p (suc k) = row-at bs p ∷ rows-at bs (after-row bs p) k
+
+abbrev pub states-in : List ℕ → ℕ
+states-in bs = field bs 0 10 + 1
+
+abbrev pub denominator-in : List ℕ → ℕ
+denominator-in bs = field bs 10 16
+
+abbrev pub start-in : List ℕ → ℕ
+start-in bs = field bs (10 + 16) 10
+
+-- where the first row begins
+abbrev pub first-row : ℕ
+first-row = 10 + 16 + 10
+
+abbrev pub decoded : List ℕ → Markov
+decoded bs = record { start = start-in bs; denominator = denominator-in bs; rows = rows-at bs first-row (states-in bs) }
