@@ -5,19 +5,20 @@ use mathlib.Core.List.{List, [], _∷_, _++_}
 use Prim.Native.Nat.{ℕ}
 use native.Mathlib.Omega.{arith}
 use Rattle.std.specs.Results.{isOk}
+use Rattle.std.proofs.shelf.Elements.{all-append}
 use Rattle.std.proofs.shelf.Tests.{false≢true}
 use Rattle.std.specs.declared.result.Result.{Result}
 use Rattle.std.specs.declared.result.Result.the-variants.{Ok, Err}
 use Rattle.refusal.specs.declared.Refusal.{Refusal}
 use Rattle.refusal.specs.Demands.{Demand, Met, told, First}
 
-never : {A F : Type 0} {a : A} {f : F} {P : Type 0} → _≡_ {A = Result A F} (Ok a) (Err f) → P
-never h = absurd (let z : _≡_ {A = ℕ} 0 1 = cc in omega arith)
+pub ok-err : {A F : Type 0} {a : A} {f : F} {P : Type 0} → _≡_ {A = Result A F} (Ok a) (Err f) → P
+ok-err h = absurd (let z : _≡_ {A = ℕ} 0 1 = cc in omega arith)
 
 module _ {F : Type 0} where
   head : {A : Type 0} (b : Bool) (r : Result A (Refusal F)) (f : Refusal F) (a : A) {P : Type 0} → cond b r (Err f) ≡ Ok a → (r ≡ Ok a → P) → (b ≡ true) × P
   head true r f a h k = (refl, k h)
-  head false r f a h k = never (sym h)
+  head false r f a h k = ok-err (sym h)
 
   stop : {A B : Type 0} (b : Bool) (r : Result A (Refusal F)) (s : Result B (Refusal F)) (f g : Refusal F) → cond b r (Err g) ≡ Err f → (r ≡ Err f → s ≡ Err f) → cond b s (Err g) ≡ Err f
   stop true r s f g h k = k h
@@ -38,6 +39,9 @@ module _ {F : Type 0} where
   pub ok-met : {A : Type 0} (ds : List (Demand F)) (a : A) → isOk (told ds a) ≡ true → Met ds
   ok-met [] a h = tt
   ok-met (x ∷ xs) a h = some-head (x .met) _ _ h (λ e. ok-met xs a e)
+
+  pub met-append : (xs ys : List (Demand F)) → Met xs → Met ys → Met (xs ++ ys)
+  met-append = all-append (λ x. x .met ≡ true)
 
   pub met-left : (xs ys : List (Demand F)) → Met (xs ++ ys) → Met xs
   met-left [] ys h = tt
@@ -60,11 +64,11 @@ module _ {F : Type 0} where
 
   -- a broken demand decides
   pub told-stop : {A B : Type 0} (xs ys : List (Demand F)) (a : A) (b : B) (f : Refusal F) → told xs a ≡ Err f → told (xs ++ ys) b ≡ Err f
-  told-stop [] ys a b f h = never h
+  told-stop [] ys a b f h = ok-err h
   told-stop (x ∷ xs) ys a b f h = stop (x .met) (told xs a) (told (xs ++ ys) b) f _ h (λ e. told-stop xs ys a b f e)
 
   pub told-first : {A : Type 0} (ds : List (Demand F)) (a : A) (f : Refusal F) → told ds a ≡ Err f → First ds f
-  told-first [] a f h = never h
+  told-first [] a f h = ok-err h
   told-first (x ∷ xs) a f h = split (x .met) refl h (λ e. told-first xs a f e)
     where
       split : (b : Bool) → x .met ≡ b → cond b (told xs a) (Err (x .refusal)) ≡ Err f → (told xs a ≡ Err f → First xs f) → First (x ∷ xs) f

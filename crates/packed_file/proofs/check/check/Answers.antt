@@ -1,0 +1,15 @@
+use Rattle.std.proofs.shelf.Results.{err-from-errBy}
+use Rattle.packed_file.proofs.Judged.{accepted, refused}
+use Rattle.packed_file.proofs.check.check.Needs as need
+
+pub returns-in-Break-faultless-body : need.returns-in-Break-faultless-body
+returns-in-Break-faultless-body c =
+    let p = err-from-errBy (c .from-residual .result) (c .from-residual .ensures .1) in
+    let e = c .in-Break-faultless-body .ensures tt in
+    rw (p .1, p .2) (record { value = e; judges = refused (c .args .bytes .now) _ e })
+
+pub returns : need.returns
+returns c =
+    let e = c .in-Continue-faultless-body .ensures tt in
+    let a = accepted (c .args .bytes .now) (c .in-Continue-faultless-body .field-0 .now) (e .0) (e .1) in
+    record { value = a .0; judges = a .1 }
