@@ -48,3 +48,6 @@ refused bytes f h = (
       let ok : judged bytes ≡ Ok (tt {0}) = rw (s .1) (met-told (body-demands body) (tt {0}) met) in
       ok-err (sym ok ∙ sym h),
 )
+
+pub faultless-lawful : (body : List ℕ) → Faultless body → Lawful (decoded body)
+faultless-lawful body h = met-lawful body (ok-met (body-demands body) (tt {0}) h)
