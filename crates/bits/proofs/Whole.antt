@@ -18,6 +18,15 @@ unfolding field
 field-lt bs p zero = omega arith
 field-lt bs p (suc w) = rw (pow-suc 2 w) (omega (arith, field-lt bs p w))
 
+-- a field reads its own bits alone
+pub field-same : (xs ys : List ℕ) (p w : ℕ) → ((j : ℕ) → j < w → bit-at xs (p + j) ≡ bit-at ys (p + j)) → field xs p w ≡ field ys p w
+unfolding field
+field-same xs ys p zero h = refl
+field-same xs ys p (suc w) h =
+    let rest = field-same xs ys p w (λ j l. h j (omega arith)) in
+    let last = h w (omega arith) in
+    rw (rest, last)
+
 pub field-append : (bs : List ℕ) (p a b : ℕ) → field bs p (a + b) ≡ field bs p a * 2 ^ b + field bs (p + a) b
 unfolding field
 field-append bs p a zero = rw add-zero (omega arith)

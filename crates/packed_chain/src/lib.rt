@@ -1,4 +1,4 @@
 //! A chain that is read straight from the bytes of its packed file.
 pub mod packed_chain;
-mod questions;
+pub mod questions;
 mod rows;

@@ -96,3 +96,7 @@ demands bytes = mark-demands bytes ++ body-demands (drop 2 bytes)
 -- the refusal of the first demand that the file breaks, or `Ok`
 abbrev pub judged : List ℕ → Result (Unit {0}) (Refusal FileFault)
 judged bytes = told (demands bytes) tt
+
+-- this many bytes from the front of a file decide what it is judged, however long it is
+abbrev pub deciding-bytes : ℕ
+deciding-bytes = 16776

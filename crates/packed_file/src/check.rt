@@ -1,13 +1,14 @@
 //! The check of a packed file, from its front.
 ghost use mathlib.Core.Path.{_≡_};
 ghost use Prim.Native.Nat.{_≤_};
+ghost use lib.ListN.{take};
 ghost use Rattle.std.specs.Results.{Cases};
 ghost use Rattle.std.specs.Vec.{made};
 ghost use Rattle.std.specs.declared.result.Result.the-variants.{Err};
 ghost use Rattle.chain.specs.Limits.{most-states};
 ghost use Rattle.refusal.specs.Demands.{told};
 ghost use Rattle.packed_file.specs.Format.{marked, states-in, denominator-in};
-ghost use Rattle.packed_file.specs.Faults.{mark-demands, header-demands, body-demands, judged};
+ghost use Rattle.packed_file.specs.Faults.{mark-demands, header-demands, body-demands, judged, deciding-bytes};
 ghost use Rattle.packed_file.specs.Judgement.{Judges, Faultless};
 use refusal::Refusal;
 use crate::fault::FileFault;
@@ -70,10 +71,14 @@ pub fn faultless_body(bytes: &[u8]) -> Result<&[u8], Refusal<FileFault>>
     Ok(body)
 }
 
+/// This many bytes from the front of a file decide what the check answers, however long the file is.
+pub const DECIDING_BYTES: usize = 16_776;
+
 /// Whether the file is a chain's; if not, its first fault from the front.
 pub fn check(bytes: &[u8]) -> Result<(), Refusal<FileFault>>
     ensures value { λ r. ⌜ r ≡ judged (now (bytes .entry)) ⌝ }
     ensures judges { λ r. ⌜ Judges (now (bytes .entry)) r ⌝ }
+    ensures front { λ r. ⌜ r ≡ judged (take deciding-bytes (now (bytes .entry))) ⌝ }
 {
     faultless_body(bytes)?;
     Ok(())

@@ -1,0 +1,13 @@
+//! Reading files.
+use std::fs;
+use std::io;
+use std::io::Read;
+use packed_file::check::DECIDING_BYTES;
+
+/// The bytes of a file; of a long one as many from its front as decide the check, so that no file is too long.
+pub(crate) fn read_front(rt: &LibcRuntime, path: &str) -> io::Result<Vec<u8>> {
+    let file = fs::open(rt, path)?;
+    let mut bytes = Vec::new(rt.alloc());
+    file.take(DECIDING_BYTES as u64).read_to_end(&mut bytes)?;
+    Ok(bytes)
+}

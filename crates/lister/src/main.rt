@@ -1,0 +1,31 @@
+//! The lister's program: its arguments, files and words, over the library.
+mod check;
+mod command;
+mod input;
+mod words;
+
+use std::env;
+use std::io;
+use crate::command::Outcome;
+use crate::command::obey;
+
+/// A command was refused, or could not be carried out; what was wrong has been told.
+#[derive(Drop)]
+struct Failed;
+
+fn run(rt: &LibcRuntime) -> io::Result<Outcome> {
+    let mut arguments = env::args(rt)?;
+    let _program = arguments.next();
+    obey(rt, arguments)
+}
+
+fn main(rt: LibcRuntime) -> Result<(), Failed> {
+    match run(&rt) {
+        Ok(Outcome::Done) => Ok(()),
+        Ok(Outcome::Refused) => Err(Failed),
+        Err(e) => {
+            let _ = eprintln!(rt, "lister: {e}");
+            Err(Failed)
+        }
+    }
+}
