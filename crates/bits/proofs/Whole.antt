@@ -8,7 +8,6 @@ use lib.ListN.{getD}
 use lib.Pow.{high, low}
 use Rattle.bits.specs.Fields.{bit-at, field}
 
-
 pub field-none : (bs : List ℕ) (p : ℕ) → field bs p 0 ≡ 0
 unfolding field
 field-none bs p = refl

@@ -3,7 +3,7 @@ ghost use mathlib.Core.Path.{refl};
 ghost use Prim.Native.Nat.{ℕ};
 ghost use lib.Dec.{lit<, lit≤};
 ghost use Rattle.chain.specs.Markov.{built-in};
-use crate::chain::Chain;
+use crate::interface::Chain;
 
 /// One state without propositions, with an edge of weight 1 out of 1 to itself.
 #[derive(Clone, Copy)]
@@ -13,8 +13,13 @@ pub impl Chain for BuiltIn as BuiltInIsChain {
     ghost meaning = { λ _. built-in };
 
     ghost lawful = { λ _. record {
-        some = lit≤ tt; few = lit≤ tt; starts = lit< tt; divides = lit≤ tt; divided = lit≤ tt; sparse = lit≤ tt;
-        each = (record { lettered = lit< tt; rising = (lit≤ tt, lit< tt, lit≤ tt, tt); whole = refl }, tt);
+      some = lit≤ tt;
+      few = lit≤ tt;
+      starts = lit< tt;
+      divides = lit≤ tt;
+      divided = lit≤ tt;
+      sparse = lit≤ tt;
+      each = (record { lettered = lit< tt; rising = (lit≤ tt, lit< tt, lit≤ tt, tt); whole = refl }, tt);
     } };
 
     fn states(&self) -> usize {

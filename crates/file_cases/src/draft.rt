@@ -81,7 +81,12 @@ impl Draft {
                 self.bit(false)?;
             }
         }
-        let Draft { bytes, byte: _, at: _, change: _ } = self;
+        let Draft {
+            bytes,
+            byte: _,
+            at: _,
+            change: _,
+        } = self;
         Ok(bytes)
     }
 }

@@ -1,15 +1,15 @@
 //! `lister check FILE`
-use std::io;
-use chain::chain::Chain;
-use packed_chain::packed_chain::PackedChain;
-use packed_chain::questions::PackedChainIsChain;
-use packed_file::check::check;
-use packed_file::fault::FileFault;
-use refusal::Refusal;
 use crate::command::Outcome;
 use crate::input::read_front;
 use crate::words::Told;
 use crate::words::ToldDisplay;
+use chain::Chain;
+use packed_chain::PackedChain;
+use packed_chain::PackedChainIsChain;
+use packed_file::FileFault;
+use packed_file::check;
+use refusal::Refusal;
+use std::io;
 
 fn tell_refusal(rt: &LibcRuntime, refusal: Refusal<FileFault>) -> io::Result<Outcome> {
     let number = refusal.fault.number();
@@ -24,8 +24,14 @@ fn tell_chain(rt: &LibcRuntime, chain: &PackedChain) -> io::Result<Outcome> {
     let edges = chain.edges();
     let denominator = chain.denominator();
     let start = chain.start();
-    println!(rt, "CHAIN states {states} edges {edges} denominator {denominator} start {start}")?;
-    println!(rt, "The file holds a lawful chain; in each of its rows the weights add up to {denominator}.")?;
+    println!(
+        rt,
+        "CHAIN states {states} edges {edges} denominator {denominator} start {start}"
+    )?;
+    println!(
+        rt,
+        "The file holds a lawful chain; in each of its rows the weights add up to {denominator}."
+    )?;
     Ok(Outcome::Done)
 }
 

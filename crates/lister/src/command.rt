@@ -1,7 +1,7 @@
 //! The commands, by their words.
+use crate::check::check_file;
 use std::env::Args;
 use std::io;
-use crate::check::check_file;
 
 const USAGE: &str = "\
 lister: counterexamples for Markov chains with whole-number weights
@@ -26,7 +26,10 @@ fn help(rt: &LibcRuntime) -> io::Result<Outcome> {
 }
 
 fn wrong_usage(rt: &LibcRuntime) -> io::Result<Outcome> {
-    eprintln!(rt, "lister: these words are no command; this is how it is used:")?;
+    eprintln!(
+        rt,
+        "lister: these words are no command; this is how it is used:"
+    )?;
     println!(rt, "{USAGE}")?;
     Ok(Outcome::Refused)
 }

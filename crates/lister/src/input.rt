@@ -1,8 +1,8 @@
 //! Reading files.
+use packed_file::DECIDING_BYTES;
 use std::fs;
 use std::io;
 use std::io::Read;
-use packed_file::check::DECIDING_BYTES;
 
 /// The bytes of a file; of a long one as many from its front as decide the check, so that no file is too long.
 pub(crate) fn read_front(rt: &LibcRuntime, path: &str) -> io::Result<Vec<u8>> {

@@ -4,10 +4,10 @@ mod command;
 mod input;
 mod words;
 
-use std::env;
-use std::io;
 use crate::command::Outcome;
 use crate::command::obey;
+use std::env;
+use std::io;
 
 /// A command was refused, or could not be carried out; what was wrong has been told.
 #[derive(Drop)]

@@ -1,7 +1,7 @@
 //! What is wrong with a file, in words.
-use std::fmt;
-use packed_file::fault::FileFault;
+use packed_file::FileFault;
 use refusal::Refusal;
+use std::fmt;
 
 /// A refused file, told to a person.
 #[derive(Drop)]
@@ -14,7 +14,8 @@ fn what_is_wrong(fault: FileFault) -> &'static str {
         FileFault::EndsInField => "The file ends inside a field.",
         FileFault::ZeroDenominator => "The denominator is 0.",
         FileFault::StartOutside => "The start is not a state of the chain.",
-        FileFault::BadTarget => "A target is not a state of the chain, or not above the target before it in its row.",
+        FileFault::BadTarget =>
+            "A target is not a state of the chain, or not above the target before it in its row.",
         FileFault::ZeroWeight => "A weight is 0.",
         FileFault::WrongSum => "The weights of a row do not add up to the denominator.",
         FileFault::TooManyEdges => "An edge count brings the edges of the chain above 4096.",
@@ -39,6 +40,9 @@ pub(crate) impl fmt::Display for Told as ToldDisplay {
         let place = self.0.place;
         let byte = place / 8;
         let bit = place % 8;
-        write!(f, "{wrong} {begins} begins at bit {place}, that is at bit {bit} of byte {byte}, counted from 0.")
+        write!(
+            f,
+            "{wrong} {begins} begins at bit {place}, that is at bit {bit} of byte {byte}, counted from 0."
+        )
     }
 }

@@ -1,4 +1,7 @@
 //! A chain that is read straight from the bytes of its packed file.
-pub mod packed_chain;
-pub mod questions;
+mod packed_chain;
+mod questions;
 mod rows;
+
+pub use crate::packed_chain::PackedChain;
+pub use crate::questions::PackedChainIsChain;

@@ -8,7 +8,7 @@ ghost use Rattle.chain.specs.Questions.{edge-total};
 ghost use Rattle.packed_file.specs.Format.{decoded, states-in, denominator-in, start-in};
 ghost use Rattle.packed_file.specs.Judgement.{Faultless};
 ghost use Rattle.packed_chain.specs.Places.{row-place};
-use chain::limits::MOST_STATES;
+use chain::MOST_STATES;
 
 #[derive(Drop)]
 pub struct PackedChain<'a> {

@@ -5,12 +5,12 @@ ghost use Rattle.packed_file.specs.Format.{decoded};
 ghost use Rattle.packed_file.specs.Judgement.{Faultless};
 ghost use Rattle.packed_file.proofs.Judged.{faultless-lawful};
 ghost use Rattle.packed_chain.specs.TakenUp.{taken-up};
-use bits::fields::get;
-use bits::mirror::mirror;
-use chain::chain::Chain;
-use packed_file::check::faultless_body;
 use crate::packed_chain::PackedChain;
 use crate::rows::row_places;
+use bits::fields::get;
+use bits::mirror::mirror;
+use chain::Chain;
+use packed_file::faultless_body;
 
 // What follows the mark in the file of the built-in chain.
 static BUILT_IN: [u8; 12] = [0, 0, 0, 0x40, 0, 0, 0, 2, 0, 0, 0, 0x80];
@@ -91,9 +91,6 @@ pub impl<'a> Chain for PackedChain<'a> as PackedChainIsChain {
             return None;
         }
         let at = row + 16 + 11 + 26 * place;
-        Some((
-            get(self.body, at, 10) as usize,
-            get(self.body, at + 10, 16),
-        ))
+        Some((get(self.body, at, 10) as usize, get(self.body, at + 10, 16)))
     }
 }

@@ -7,9 +7,9 @@ ghost use Rattle.chain.specs.Questions.{edge-total};
 ghost use Rattle.packed_file.specs.Format.{decoded, states-in};
 ghost use Rattle.packed_file.specs.Judgement.{Faultless};
 ghost use Rattle.packed_chain.specs.Places.{row-place, Found};
-use bits::fields::get;
-use chain::limits::MOST_STATES;
 use crate::packed_chain::PackedChain;
+use bits::fields::get;
+use chain::MOST_STATES;
 
 /// Where each row begins, and how many edges there are in all.
 pub(crate) fn row_places(body: &[u8], states: usize) -> ([u32; MOST_STATES], usize)

@@ -65,12 +65,12 @@ module _ (xs ys : List ℕ) (bits : ℕ) (same : Agree xs ys bits) where
         elim (cases-lt most-edges (m + count-at ys p)) [
           | inl many ↦ rw (in-x p 16 (omega arith), in-x (p + 16) 11 (omega arith), in-y p 16 (omega arith), in-y (p + 16) 11 (omega arith), c, lt-leb (m + count-at ys p) most-edges many)
           | inr few ↦ (
-            let row = row-same n d p m (omega arith) in
-            let later = λ (bs : List ℕ). rows-demands bs n d k (after-row ys p) (m + count-at ys p) in
-            let moved : rows-demands xs n d k (after-row xs p) (m + count-at xs p) ≡ later xs = rw c in
-            ap (λ ds. told (ds ++ rows-demands xs n d k (after-row xs p) (m + count-at xs p)) v) row
-            ∙ ap (λ ds. told (row-demands ys n d p m ++ ds) v) moved
-            ∙ told-more (row-demands ys n d p m) (later xs) (later ys) v (rows-same k (after-row ys p) (m + count-at ys p) few (omega arith)))
+              let row = row-same n d p m (omega arith) in
+              let later = λ (bs : List ℕ). rows-demands bs n d k (after-row ys p) (m + count-at ys p) in
+              let moved : rows-demands xs n d k (after-row xs p) (m + count-at xs p) ≡ later xs = rw c in
+              ap (λ ds. told (ds ++ rows-demands xs n d k (after-row xs p) (m + count-at xs p)) v) row
+              ∙ ap (λ ds. told (row-demands ys n d p m ++ ds) v) moved
+              ∙ told-more (row-demands ys n d p m) (later xs) (later ys) v (rows-same k (after-row ys p) (m + count-at ys p) few (omega arith)))
         ]
 
   body-same : {V : Type 0} (v : V) → 134188 ≤ bits → told (body-demands xs) v ≡ told (body-demands ys) v

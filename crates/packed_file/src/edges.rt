@@ -7,10 +7,10 @@ ghost use Rattle.chain.specs.Markov.{weight-sum};
 ghost use Rattle.refusal.specs.Demands.{told};
 ghost use Rattle.packed_file.specs.Format.{edges-at};
 ghost use Rattle.packed_file.specs.Faults.{edge-demands, edges-demands};
-use refusal::Refusal;
 use crate::fault::FileFault;
 use crate::fields::refuse;
 use crate::fields::take;
+use refusal::Refusal;
 
 /// The target and the weight of the edge at `at`, of a chain with `states` states; its target is at least `low`.
 fn check_edge(

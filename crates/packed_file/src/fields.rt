@@ -6,9 +6,9 @@ ghost use Rattle.std.specs.Vec.{made};
 ghost use Rattle.bits.specs.Fields.{field};
 ghost use Rattle.refusal.specs.Demands.{told};
 ghost use Rattle.packed_file.specs.Faults.{there};
+use crate::fault::FileFault;
 use bits::fields::get;
 use refusal::Refusal;
-use crate::fault::FileFault;
 
 const MARK_BITS: usize = 16;
 

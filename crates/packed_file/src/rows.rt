@@ -6,13 +6,13 @@ ghost use Rattle.chain.specs.Limits.{most-states, most-edges};
 ghost use Rattle.refusal.specs.Demands.{told};
 ghost use Rattle.packed_file.specs.Format.{count-at, first-row};
 ghost use Rattle.packed_file.specs.Faults.{count-demands, row-demands, rows-demands, end-demands};
-use bits::fields::get;
-use chain::limits::MOST_EDGES;
-use refusal::Refusal;
 use crate::edges::check_edges;
 use crate::fault::FileFault;
 use crate::fields::refuse;
 use crate::fields::take;
+use bits::fields::get;
+use chain::MOST_EDGES;
+use refusal::Refusal;
 
 /// How many edges the row at `at` has, after rows with `before` edges.
 fn check_count(body: &[u8], at: usize, before: usize) -> Result<usize, Refusal<FileFault>>

@@ -22,7 +22,7 @@ returns-in-Break-sum c =
 pub returns-then-sum-denominator : need.returns-then-sum-denominator
 returns-then-sum-denominator c =
     let uneven = row-uneven (c .args .body .now) (c .args .states) (c .args .denominator) (c .args .at) (c .args .before)
-    (c .in-Continue-count .count) (c .in-Continue-count .ensures tt .told) (c .in-Continue-sum .sum) (c .in-Continue-sum .ensures tt) 
+    (c .in-Continue-count .count) (c .in-Continue-count .ensures tt .told) (c .in-Continue-sum .sum) (c .in-Continue-sum .ensures tt)
     (count-at (c .args .body .now) (c .args .at)) (c .if-sum-denominator .taken) in
     rw (c .refuse .ensures) (record { bound = tt; told = sym uneven })
 

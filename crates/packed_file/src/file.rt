@@ -10,11 +10,11 @@ ghost use Rattle.refusal.specs.Demands.{told};
 ghost use Rattle.packed_file.specs.Format.{marked, states-in, denominator-in};
 ghost use Rattle.packed_file.specs.Faults.{mark-demands, header-demands, body-demands, judged, deciding-bytes};
 ghost use Rattle.packed_file.specs.Judgement.{Judges, Faultless};
-use refusal::Refusal;
 use crate::fault::FileFault;
 use crate::fields::refuse;
 use crate::fields::take;
 use crate::rows::check_rows;
+use refusal::Refusal;
 
 /// What follows the mark.
 fn after_mark(bytes: &[u8]) -> Result<&[u8], Refusal<FileFault>>

@@ -2,7 +2,7 @@ use mathlib.Core.Path.{_∙_}
 use Rattle.std.proofs.shelf.Results.{err-from-errBy}
 use Rattle.packed_file.proofs.Front.{judged-front}
 use Rattle.packed_file.proofs.Judged.{accepted, refused}
-use Rattle.packed_file.proofs.check.check.Needs as need
+use Rattle.packed_file.proofs.file.check.Needs as need
 
 pub returns-in-Break-faultless-body : need.returns-in-Break-faultless-body
 returns-in-Break-faultless-body c =
