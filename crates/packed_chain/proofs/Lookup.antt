@@ -17,7 +17,7 @@ use Rattle.bits.proofs.Whole.{field-lt}
 use Rattle.chain.specs.Limits.{most-edges}
 use Rattle.chain.specs.Markov.{edges-in}
 use Rattle.chain.specs.Questions.{propositions-of, degree-of, edge-of}
-use Rattle.packed_file.specs.Format.{edges-at, row-at, rows-at, count-at, after-row, states-in, denominator-in, first-row, decoded}
+use Rattle.packed_file.specs.Format.{edges-at, row-at, rows-at, count-at, after-row, states-in, denominator-in, first-row, longest-body, decoded}
 use Rattle.packed_file.specs.Faults.{body-demands, row-demands, rows-demands, edges-demands}
 use Rattle.packed_file.specs.Judgement.{Faultless}
 use Rattle.packed_file.proofs.Fits.{edges-inside, length-rows, length-edges}
@@ -49,12 +49,12 @@ nth-edges bs zero p j h = absurd (omega arith)
 nth-edges bs (suc k) p zero h = let e : p + 26 * 0 ≡ p = omega arith in rw e
 nth-edges bs (suc k) p (suc j) h = let e : p + 10 + 16 + 26 * j ≡ p + 26 * suc j = omega arith in rw e at (nth-edges bs k (p + 10 + 16) j (omega arith))
 
--- the row at q lies in the body, and not beyond the end of the longest file
+-- the row at q ends in the body, and no later than the longest body
 pub record Within (bs : List ℕ) (q : ℕ) : Type 0 where
   pub inside : after-row bs q ≤ 8 * length bs
-  pub near : after-row bs q ≤ 134180
+  pub near : after-row bs q ≤ longest-body
 
-rows-within : (bs : List ℕ) (n d k p m s : ℕ) → Met (rows-demands bs n d k p m) → m ≤ most-edges → p + 27 * k + 26 * (most-edges - m) ≤ 134180 → s < k → Within bs (place-from bs p s)
+rows-within : (bs : List ℕ) (n d k p m s : ℕ) → Met (rows-demands bs n d k p m) → m ≤ most-edges → p + 27 * k + 26 * (most-edges - m) ≤ longest-body → s < k → Within bs (place-from bs p s)
 unfolding rows-demands place-from
 rows-within bs n d zero p m s h l b lt = absurd (omega arith)
 rows-within bs n d (suc k) p m zero h l b lt =

@@ -4,6 +4,7 @@ ghost use denote.Ref.{now};
 ghost use Rattle.packed_file.specs.Format.{decoded};
 ghost use Rattle.packed_file.specs.Judgement.{Faultless};
 ghost use Rattle.packed_file.proofs.Judged.{faultless-lawful};
+ghost use Rattle.packed_chain.specs.Meaning.{meaning-of};
 ghost use Rattle.packed_chain.specs.TakenUp.{taken-up};
 use crate::packed_chain::PackedChain;
 use crate::rows::row_places;
@@ -48,14 +49,14 @@ fn chain_of<'a>(body: &'a [u8]) -> PackedChain<'a>
 impl<'a> PackedChain<'a> {
     /// Takes up a file: its chain, or the built-in chain where the file has a fault.
     pub fn new(bytes: &'a [u8]) -> PackedChain<'a>
-        ensures { λ r. ⌜ decoded (now (r .body)) ≡ taken-up (now (bytes .entry)) ⌝ }
+        ensures { λ r. ⌜ meaning-of r ≡ taken-up (now (bytes .entry)) ⌝ }
     {
         chain_of(body_or_built_in(bytes))
     }
 }
 
 pub impl<'a> Chain for PackedChain<'a> as PackedChainIsChain {
-    ghost meaning = { λ t. decoded (now (t .body)) };
+    ghost meaning = { meaning-of };
 
     ghost lawful = { λ t. faultless-lawful (now (t .body)) (t .faultless) };
 

@@ -14,7 +14,7 @@ use Rattle.bits.specs.Fields.{field, bit-at}
 use Rattle.bits.proofs.Whole.{field-same, field-lt}
 use Rattle.chain.specs.Limits.{most-edges}
 use Rattle.packed_file.specs.declared.fault.FileFault.{FileFault}
-use Rattle.packed_file.specs.Format.{edges-at, count-at, after-row, states-in, denominator-in, start-in, first-row}
+use Rattle.packed_file.specs.Format.{edges-at, count-at, after-row, states-in, denominator-in, start-in, first-row, longest-body}
 use Rattle.packed_file.specs.Faults.{there, header-demands, count-demands, edge-demands, edges-demands, sum-demand, row-demands, nothing-left, end-demands, rows-demands, body-demands, judged, deciding-bytes}
 
 -- the two bodies have the same first `bits` bits, and end no earlier
@@ -73,7 +73,7 @@ module _ (xs ys : List ℕ) (bits : ℕ) (same : Agree xs ys bits) where
               ∙ told-more (row-demands ys n d p m) (later xs) (later ys) v (rows-same k (after-row ys p) (m + count-at ys p) few (omega arith)))
         ]
 
-  body-same : {V : Type 0} (v : V) → 134188 ≤ bits → told (body-demands xs) v ≡ told (body-demands ys) v
+  body-same : {V : Type 0} (v : V) → longest-body + 8 ≤ bits → told (body-demands xs) v ≡ told (body-demands ys) v
   body-same v h =
       let states = same .fields 0 10 (omega arith) in
       let denominator = same .fields 10 16 (omega arith) in

@@ -1,7 +1,7 @@
 -- What a file must meet, in the order of the file.
 use mathlib.Core.Bool.{Bool, true, false, not, _&&_}
 use mathlib.Core.List.{List, [], _∷_, _++_}
-use Prim.Native.Nat.{ℕ, zero, suc, _+_, _-_, _*_}
+use Prim.Native.Nat.{ℕ, zero, suc, _+_, _-_, _*_, _/_}
 use lib.Dec.{leb, ltb, eqb}
 use lib.ListN.{length, drop}
 use Rattle.std.specs.declared.result.Result.{Result}
@@ -12,7 +12,7 @@ use Rattle.chain.specs.Limits.{most-edges}
 use Rattle.chain.specs.Markov.{weight-sum}
 use Rattle.packed_file.specs.declared.fault.FileFault.{FileFault}
 use Rattle.packed_file.specs.declared.fault.FileFault.the-variants.{ReversedMark, NoMark, EndsInField, ZeroDenominator, StartOutside, BadTarget, ZeroWeight, WrongSum, TooManyEdges, Leftover}
-use Rattle.packed_file.specs.Format.{edges-at, count-at, after-row, states-in, denominator-in, start-in, first-row}
+use Rattle.packed_file.specs.Format.{edges-at, count-at, after-row, states-in, denominator-in, start-in, first-row, longest-body}
 
 abbrev pub Demands : Type 0
 Demands = List (Demand FileFault)
@@ -97,6 +97,6 @@ demands bytes = mark-demands bytes ++ body-demands (drop 2 bytes)
 abbrev pub judged : List ℕ → Result (Unit {0}) (Refusal FileFault)
 judged bytes = told (demands bytes) tt
 
--- this many bytes from the front of a file decide what it is judged, however long it is
+-- The bytes of the longest file and one more: from the front of a file these decide what it is judged.
 abbrev pub deciding-bytes : ℕ
-deciding-bytes = 16776
+deciding-bytes = (16 + longest-body + 7) / 8 + 1

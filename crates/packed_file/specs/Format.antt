@@ -7,6 +7,7 @@ use lib.ListN.{length}
 use Rattle.std.specs.Joined.{joined}
 use Rattle.bits.specs.Fields.{field}
 use Rattle.bits.specs.Mirror.{mirrored}
+use Rattle.chain.specs.Limits.{most-states, most-edges}
 use Rattle.chain.specs.Markov.{Row, Markov}
 
 -- What a chain's file holds: fields, each a width and a value, in the order of the file.
@@ -68,6 +69,10 @@ start-in bs = field bs (10 + 16) 10
 -- where the first row begins
 abbrev pub first-row : ℕ
 first-row = 10 + 16 + 10
+
+-- the most bits that the body of a lawful chain's file can have
+abbrev pub longest-body : ℕ
+longest-body = first-row + 27 * most-states + 26 * most-edges
 
 abbrev pub decoded : List ℕ → Markov
 decoded bs = record { start = start-in bs; denominator = denominator-in bs; rows = rows-at bs first-row (states-in bs) }
