@@ -42,7 +42,8 @@ field-part bs q p w r =
     let e₂ = field-append bs q p w in
     rw (h, e₂) (low (field bs q p) w (field-lt bs (q + p) w))
 
-bits : (x : ℕ) → x < 256 → ((((((((0 * 2 + x / 128 % 2) * 2 + x / 64 % 2) * 2 + x / 32 % 2) * 2 + x / 16 % 2) * 2 + x / 8 % 2) * 2 + x / 4 % 2) * 2 + x / 2 % 2) * 2 + x / 1 % 2) ≡ x
+bits : (x : ℕ) → x < 256
+    → ((((((((0 * 2 + x / 128 % 2) * 2 + x / 64 % 2) * 2 + x / 32 % 2) * 2 + x / 16 % 2) * 2 + x / 8 % 2) * 2 + x / 4 % 2) * 2 + x / 2 % 2) * 2 + x / 1 % 2) ≡ x
 bits x h = omega arith
 
 at-bit : (bs : List ℕ) (i k : ℕ) → k < 8 → bit-at bs (8 * i + k) ≡ getD bs i 0 / 2 ^ (7 - k) % 2
@@ -51,7 +52,8 @@ at-bit bs i k h = let d : (8 * i + k) / 8 ≡ i = omega arith in let m : (8 * i 
 pub field-byte : (bs : List ℕ) (i : ℕ) → getD bs i 0 < 256 → field bs (8 * i) 8 ≡ getD bs i 0
 unfolding field
 field-byte bs i h =
-    rw (at-bit bs i 0 (omega arith), at-bit bs i 1 (omega arith), at-bit bs i 2 (omega arith), at-bit bs i 3 (omega arith), at-bit bs i 4 (omega arith), at-bit bs i 5 (omega arith), at-bit bs i 6 (omega arith), at-bit bs i 7 (omega arith))
+    let b = λ (k : ℕ) (h : k < 8). at-bit bs i k h in
+    rw (b 0 (omega arith), b 1 (omega arith), b 2 (omega arith), b 3 (omega arith), b 4 (omega arith), b 5 (omega arith), b 6 (omega arith), b 7 (omega arith))
     (bits (getD bs i 0) h)
 
 pub field-word : (bs : List ℕ) (i : ℕ) → getD bs i 0 < 256 → getD bs (i + 1) 0 < 256 → getD bs (i + 2) 0 < 256

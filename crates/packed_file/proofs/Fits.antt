@@ -177,7 +177,8 @@ edges-met bs n (suc k) p low fs r h = (
   ),
 )
 
-rows-met : (bs : List ℕ) (n d k p m : ℕ) → All (LawfulRow n d) (rows-at bs p k) → m + edges-in (rows-at bs p k) ≤ most-edges → Holds bs p (joined row-fields (rows-at bs p k)) → Met (rows-demands bs n d k p m)
+rows-met : (bs : List ℕ) (n d k p m : ℕ) → All (LawfulRow n d) (rows-at bs p k) → m + edges-in (rows-at bs p k) ≤ most-edges
+    → Holds bs p (joined row-fields (rows-at bs p k)) → Met (rows-demands bs n d k p m)
 unfolding rows-demands rows-at
 rows-met bs n d zero p m r few h = (and-from (ltb (8 * length bs) (p + 8)) (eqb (field bs p (8 * length bs - p)) 0) (lt-ltb _ _ (h .1)) (eq-eqb _ _ (h .2)), tt)
 rows-met bs n d (suc k) p m r few h =

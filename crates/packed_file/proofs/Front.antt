@@ -13,9 +13,8 @@ use Rattle.refusal.specs.Demands.{Demand, told}
 use Rattle.bits.specs.Fields.{field, bit-at}
 use Rattle.bits.proofs.Whole.{field-same, field-lt}
 use Rattle.chain.specs.Limits.{most-edges}
-use Rattle.packed_file.specs.declared.fault.FileFault.{FileFault}
 use Rattle.packed_file.specs.Format.{edges-at, count-at, after-row, states-in, denominator-in, start-in, first-row, longest-body}
-use Rattle.packed_file.specs.Faults.{there, header-demands, count-demands, edge-demands, edges-demands, sum-demand, row-demands, nothing-left, end-demands, rows-demands, body-demands, judged, deciding-bytes}
+use Rattle.packed_file.specs.Faults.{edges-demands, row-demands, rows-demands, body-demands, judged, deciding-bytes}
 
 -- the two bodies have the same first `bits` bits, and end no earlier
 record Agree (xs ys : List ℕ) (bits : ℕ) : Type 0 where

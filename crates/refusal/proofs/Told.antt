@@ -72,5 +72,7 @@ module _ {F : Type 0} where
   told-first (x ∷ xs) a f h = split (x .met) refl h (λ e. told-first xs a f e)
     where
       split : (b : Bool) → x .met ≡ b → cond b (told xs a) (Err (x .refusal)) ≡ Err f → (told xs a ≡ Err f → First xs f) → First (x ∷ xs) f
-      split true e r k = let q = k r in record { before = x ∷ q .before; broken = q .broken; after = q .after; order = ap (λ l. x ∷ l) (q .order); kept = (e, q .kept); unmet = q .unmet; same = q .same }
+      split true e r k =
+          let q = k r in
+          record { before = x ∷ q .before; broken = q .broken; after = q .after; order = ap (λ l. x ∷ l) (q .order); kept = (e, q .kept); unmet = q .unmet; same = q .same }
       split false e r k = record { before = []; broken = x; after = xs; order = refl; kept = tt; unmet = e; same = cc }

@@ -3,6 +3,7 @@ use mathlib.Core.Path.{_≡_, _∙_, sym, refl}
 use native.Mathlib.Omega.{arith}
 use Prim.Native.Nat.{_+_, _-_, _*_}
 use Rattle.std.proofs.shelf.Results.{err-from-errBy}
+use Rattle.bits.specs.Fields.{field}
 use Rattle.chain.specs.Markov.{weight-sum}
 use Rattle.packed_file.specs.Format.{edges-at}
 use Rattle.packed_file.proofs.Turns.{edges-turn, edges-stop, edges-none, weights-none}
@@ -25,7 +26,11 @@ loop-k-again c =
 pub returns-in-Break-target : need.returns-in-Break-target
 returns-in-Break-target c =
     let p = err-from-errBy (c .from-residual .result) (c .from-residual .ensures .1) in
-    rw (p .1, p .2) (sym (c .loop-k .inv .0 ∙ edges-stop _ _ _ _ _ _ _ _ (omega arith) (c .in-Break-target .ensures tt .told)))
+    let at = c .args .first + 26 * c .loop-k .k in
+    let stop = edges-stop (c .args .body .now) (c .args .states) (c .args .count - c .loop-k .k) at (c .loop-k .low)
+    (weight-sum (edges-at (c .args .body .now) (c .args .first) (c .args .count)))
+    (field (c .args .body .now) at 10, field (c .args .body .now) (at + 10) 16) _ (omega arith) (c .in-Break-target .ensures tt .told) in
+    rw (p .1, p .2) (sym (c .loop-k .inv .0 ∙ stop))
 
 pub add-low : need.add-low
 add-low c = let b = c .in-Continue-target .ensures tt .bound in search needs

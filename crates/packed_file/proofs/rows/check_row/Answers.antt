@@ -1,8 +1,10 @@
 use mathlib.Core.Path.{sym}
+use Prim.Native.Nat.{_+_}
 use Rattle.std.proofs.shelf.Results.{err-from-errBy}
+use Rattle.chain.specs.Markov.{weight-sum}
 use Rattle.refusal.proofs.Told.{told-value}
 use Rattle.packed_file.specs.Faults.{count-demands}
-use Rattle.packed_file.specs.Format.{count-at}
+use Rattle.packed_file.specs.Format.{count-at, edges-at}
 use Rattle.packed_file.proofs.Turns.{row-stop-count, row-stop, row-uneven, row-even}
 use Rattle.packed_file.proofs.rows.check_row.Needs as need
 
@@ -16,7 +18,8 @@ pub returns-in-Break-sum : need.returns-in-Break-sum
 returns-in-Break-sum c =
     let p = err-from-errBy (c .from-residual-in-Break-sum .result) (c .from-residual-in-Break-sum .ensures .1) in
     let stop = row-stop (c .args .body .now) (c .args .states) (c .args .denominator) (c .args .at) (c .args .before)
-    (c .in-Continue-count .count) (c .in-Continue-count .ensures tt .told) _ _ _ (c .in-Break-sum .ensures tt) in
+    (c .in-Continue-count .count) (c .in-Continue-count .ensures tt .told) (count-at (c .args .body .now) (c .args .at))
+    (weight-sum (edges-at (c .args .body .now) (c .args .at + 16 + 11) (c .in-Continue-count .count))) _ (c .in-Break-sum .ensures tt) in
     rw (p .1, p .2) (record { bound = tt; told = sym stop })
 
 pub returns-then-sum-denominator : need.returns-then-sum-denominator
@@ -31,5 +34,6 @@ returns c =
     let even = row-even (c .args .body .now) (c .args .states) (c .args .denominator) (c .args .at) (c .args .before)
     (c .in-Continue-count .count) (c .in-Continue-count .ensures tt .told) (c .in-Continue-sum .sum) (c .in-Continue-sum .ensures tt)
     (count-at (c .args .body .now) (c .args .at)) (c .if-sum-denominator .left) in
-    let v = told-value (count-demands (c .args .body .now) (c .args .at) (c .args .before)) (count-at (c .args .body .now) (c .args .at)) (c .in-Continue-count .count) (c .in-Continue-count .ensures tt .told) in
+    let v = told-value (count-demands (c .args .body .now) (c .args .at) (c .args .before)) (count-at (c .args .body .now) (c .args .at))
+    (c .in-Continue-count .count) (c .in-Continue-count .ensures tt .told) in
     record { bound = c .in-Continue-count .ensures tt .bound; told = rw v (sym even) }
