@@ -18,18 +18,20 @@ fn what_is_wrong(fault: FileFault) -> &'static str {
             "A target is not a state of the chain, or not above the target before it in its row.",
         FileFault::ZeroWeight => "A weight is 0.",
         FileFault::WrongSum => "The weights of a row do not add up to the denominator.",
-        FileFault::TooManyEdges => "An edge count brings the edges of the chain above 4096.",
+        FileFault::TooManyEdges =>
+            "An edge count brings the edges above the most that a chain may have.",
         FileFault::Leftover => "After the last row a bit is set, or a whole byte is left.",
     }
 }
 
-/// What begins at the place that is told.
+/// What it is that the place says, up to the place.
 fn what_begins(fault: FileFault) -> &'static str {
     match fault {
-        FileFault::ReversedMark | FileFault::NoMark => "The mark",
-        FileFault::WrongSum => "The edge count of that row",
-        FileFault::Leftover => "What follows the row",
-        _ => "Its field",
+        FileFault::ReversedMark => "The mark begins",
+        FileFault::NoMark => "The mark should begin",
+        FileFault::WrongSum => "The edge count of that row begins",
+        FileFault::Leftover => "What follows the row begins",
+        _ => "The field begins",
     }
 }
 
@@ -42,7 +44,7 @@ pub(crate) impl fmt::Display for Told as ToldDisplay {
         let bit = place % 8;
         write!(
             f,
-            "{wrong} {begins} begins at bit {place}, that is at bit {bit} of byte {byte}, counted from 0."
+            "{wrong} {begins} at bit {place}, that is at bit {bit} of byte {byte}, counted from 0."
         )
     }
 }
