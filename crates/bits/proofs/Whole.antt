@@ -5,7 +5,7 @@ use native.Mathlib.Omega.{arith}
 use native.Mathlib.Nat.{pow-suc, add-zero, add-suc, zero-add, add-assoc, mul-assoc, add-mul, mul-one}
 use mathlib.Core.List.{List}
 use lib.ListN.{getD}
-use lib.Pow.{high, low}
+use lib.Pow.{high, low, shr-shr}
 use Rattle.bits.specs.Fields.{bit-at, field}
 
 pub field-none : (bs : List ℕ) (p : ℕ) → field bs p 0 ≡ 0
@@ -78,3 +78,14 @@ field-read bs at w x y z l ex ey ez hx hy hz =
     let q : 8 * (at / 8) + at % 8 ≡ at = omega arith in
     let p = field-part bs (8 * (at / 8)) (at % 8) w (24 - at % 8 - w) in
     rw e (rw (n, q) at p)
+
+-- one more bit of the value
+pub value-more : (v n : ℕ) → 0 < n → v / 2 ^ (n - 1) ≡ v / 2 ^ n * 2 + v / 2 ^ (n - 1) % 2
+value-more v n h =
+    let p : n ≡ (n - 1) + 1 = omega arith in
+    let q : v / 2 ^ ((n - 1) + 1) ≡ v / 2 ^ (n - 1) / 2 = sym (shr-shr v (n - 1) 1) in
+    let r : v / 2 ^ n ≡ v / 2 ^ (n - 1) / 2 = ap (λ k. v / 2 ^ k) p ∙ q in
+    omega arith
+
+pub whole-shift : (w v : ℕ) → v / 2 ^ (w - w) ≡ v
+whole-shift w v = let e : w - w ≡ 0 = omega arith in rw e (omega arith)

@@ -17,7 +17,8 @@ use Rattle.bits.proofs.Whole.{field-lt}
 use Rattle.bits.proofs.Mirrors.{mirrored-lt, mirrored-back}
 use Rattle.chain.specs.Limits.{most-edges}
 use Rattle.chain.specs.Markov.{Row, Markov, Rising, LawfulRow, Lawful, weight-sum, edges-in}
-use Rattle.packed_file.specs.Format.{Holds, layout, edge-fields, row-fields, edges-at, row-at, rows-at, count-at, after-row, states-in, denominator-in, start-in, first-row, decoded}
+use Rattle.packed_file.specs.Format.{layout, edge-fields, row-fields, edges-at, row-at, rows-at, count-at, after-row, states-in, denominator-in, start-in, first-row, decoded}
+use Rattle.packed_file.proofs.Holding.{Holds}
 use Rattle.packed_file.specs.Faults.{body-demands, edges-demands, rows-demands, row-demands, sum-demand, nothing-left}
 
 pub length-edges : (bs : List ℕ) (p k : ℕ) → length (edges-at bs p k) ≡ k

@@ -1,9 +1,8 @@
 -- The packed file of a chain: the mark, two bytes, and then the body, fields of bits.
 -- Places in a body count its bits from the end of the mark.
-use mathlib.Core.Path.{_≡_}
 use mathlib.Core.List.{List, [], _∷_, _++_}
-use Prim.Native.Nat.{ℕ, zero, suc, _+_, _-_, _*_, _≤_, _<_}
-use lib.ListN.{length}
+use Prim.Native.Nat.{ℕ, zero, suc, _+_, _-_, _*_, _/_, _%_, _^_}
+use lib.ListN.{length, getD}
 use Rattle.std.specs.Joined.{joined}
 use Rattle.bits.specs.Fields.{field}
 use Rattle.bits.specs.Mirror.{mirrored}
@@ -24,18 +23,32 @@ header-fields c = (10, length (c .rows) - 1) ∷ (16, c .denominator) ∷ (10, c
 abbrev pub layout : Markov → List (ℕ × ℕ)
 layout c = header-fields c ++ joined row-fields (c .rows)
 
--- from place p on stand these fields without gaps, and then zero bits that fill the last byte
-abbrev pub Holds : List ℕ → ℕ → List (ℕ × ℕ) → Type 0
-Holds bs p [] = (p ≤ 8 * length bs) × (8 * length bs < p + 8) × (field bs p (8 * length bs - p) ≡ 0)
-Holds bs p (f ∷ fs) = (p + f .0 ≤ 8 * length bs) × (field bs p (f .0) ≡ f .1) × Holds bs (p + f .0) fs
+-- The file: the mark, then the bits of the fields one after another, cut into bytes; zero bits fill the last byte.
+unfoldable pub bits : ℕ → ℕ → List ℕ
+bits zero v = []
+bits (suc w) v = v / 2 ^ w % 2 ∷ bits w v
 
--- the mark, and after it a body
+abbrev pub all-bits : List (ℕ × ℕ) → List ℕ
+all-bits = joined (λ f. bits (f .0) (f .1))
+
+-- the number that w bits of a list write from place p on, with zeros past the list's end
+unfoldable pub number-at : List ℕ → ℕ → ℕ → ℕ
+number-at xs p zero = 0
+number-at xs p (suc w) = number-at xs p w * 2 + getD xs (p + w) 0
+
+-- the k bytes that the bits from place p on write
+unfoldable pub bytes-from : List ℕ → ℕ → ℕ → List ℕ
+bytes-from xs p zero = []
+bytes-from xs p (suc k) = number-at xs p 8 ∷ bytes-from xs (p + 8) k
+
+abbrev pub packed : List (ℕ × ℕ) → List ℕ
+packed fs = bytes-from (all-bits fs) 0 ((length (all-bits fs) + 7) / 8)
+
 abbrev pub marked : List ℕ → List ℕ
 marked body = 0xFE ∷ 0xFF ∷ body
 
--- the bytes are the file of the chain
-abbrev pub Spells : List ℕ → Markov → Type 0
-Spells bytes c = (body : List ℕ) × (bytes ≡ marked body) × Holds body 0 (layout c)
+abbrev pub encode : Markov → List ℕ
+encode c = marked (packed (layout c))
 
 -- What a body says at its places, with no question whether it is a chain's.
 unfoldable pub edges-at : List ℕ → ℕ → ℕ → List (ℕ × ℕ)

@@ -1,3 +1,6 @@
+use Prim.Native.Nat.{ℕ, _<_}
+use borrow.Author.Needs.{needs}
+use lib.ListN.{getD}
 use mathlib.Core.Path.{_∙_}
 use Rattle.std.proofs.shelf.Results.{err-from-errBy}
 use Rattle.packed_file.proofs.Front.{judged-front}
@@ -13,5 +16,6 @@ returns-in-Break-faultless-body c =
 pub returns : need.returns
 returns c =
     let e = c .in-Continue-faultless-body .ensures tt in
-    let a = accepted (c .args .bytes .now) (c .in-Continue-faultless-body .field-0 .now) (e .0) (e .1) in
+    let small : (i : ℕ) → getD (c .args .bytes .now) i 0 < 256 = λ i. let t = c .typed .bytes i in search needs in
+    let a = accepted (c .args .bytes .now) (c .in-Continue-faultless-body .field-0 .now) small (e .0) (e .1) in
     record { value = a .0; judges = a .1; front = a .0 ∙ judged-front (c .args .bytes .now) }
