@@ -4,8 +4,10 @@ use Prim.Native.Nat.{ℕ, zero, suc, _+_, _-_, _*_, _/_, _%_, _^_, _<_, _≤_}
 use native.Mathlib.Omega.{arith}
 use native.Mathlib.Nat.{pow-suc, add-zero, add-suc, zero-add, add-assoc, mul-assoc, add-mul, mul-one}
 use mathlib.Core.List.{List}
+use mathlib.Core.Logic.{inl, inr}
 use lib.ListN.{getD}
-use lib.Pow.{high, low, shr-shr}
+use Rattle.std.proofs.shelf.Tests.{cases-eq}
+use lib.Pow.{high, low, shr-shr, shr-lt}
 use Rattle.bits.specs.Fields.{bit-at, field}
 
 pub field-none : (bs : List ℕ) (p : ℕ) → field bs p 0 ≡ 0
@@ -89,3 +91,32 @@ value-more v n h =
 
 pub whole-shift : (w v : ℕ) → v / 2 ^ (w - w) ≡ v
 whole-shift w v = let e : w - w ≡ 0 = omega arith in rw e (omega arith)
+
+-- equal fields have equal bits
+pub field-bits : (xs ys : List ℕ) (p w : ℕ) → field xs p w ≡ field ys p w → (j : ℕ) → j < w → bit-at xs (p + j) ≡ bit-at ys (p + j)
+unfolding field
+field-bits xs ys p zero e j h = omega arith
+field-bits xs ys p (suc w) e j h =
+    let last : bit-at xs (p + w) ≡ bit-at ys (p + w) = omega arith in
+    let front : field xs p w ≡ field ys p w = omega arith in
+    elim (cases-eq j w) [
+      | inl q ↦ rw q last
+      | inr n ↦ field-bits xs ys p w front j (omega arith)
+    ]
+
+-- bytes that hold the digits of a number, the highest first
+pub field-bytes : (bs : List ℕ) (i n word : ℕ) → word < 2 ^ (8 * n) → ((k : ℕ) → k < n → getD bs (i + k) 0 ≡ word / 2 ^ (8 * (n - 1 - k)) % 256)
+    → field bs (8 * i) (8 * n) ≡ word
+field-bytes bs i zero word small digits = rw (field-none bs (8 * i)) (omega arith)
+field-bytes bs i (suc n) word small digits =
+    let n₈ : 8 * suc n ≡ 8 * n + 8 = omega arith in
+    let less : word / 2 ^ 8 < 2 ^ (8 * n) = shr-lt (8 * n) 8 (rw n₈ at small) in
+    let front = field-bytes bs i n (word / 2 ^ 8) less (λ k h.
+        let e : 8 + 8 * (n - 1 - k) ≡ 8 * (suc n - 1 - k) = omega arith in
+        let s = shr-shr word 8 (8 * (n - 1 - k)) in
+        rw (s, e) (digits k (omega arith))) in
+    let z : 8 * (suc n - 1 - n) ≡ 0 = omega arith in
+    let byte : getD bs (i + n) 0 ≡ word % 256 = (rw z at (digits n (omega arith))) ∙ omega arith in
+    let last : field bs (8 * i + 8 * n) 8 ≡ word % 256 =
+    let e : 8 * i + 8 * n ≡ 8 * (i + n) = omega arith in rw e (field-byte bs (i + n) (rw byte (omega arith)) ∙ byte) in
+    rw (n₈, field-append bs (8 * i) (8 * n) 8, front, last) (omega arith)

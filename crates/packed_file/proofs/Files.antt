@@ -14,23 +14,11 @@ use Rattle.std.proofs.shelf.Lists.{ext-getD, getD-append-left, getD-append-add}
 use Rattle.std.proofs.shelf.Tests.{cases-lt, cases-eq}
 use Rattle.bits.specs.Fields.{field, bit-at}
 use Rattle.bits.specs.Mirror.{mirrored}
-use Rattle.bits.proofs.Whole.{field-same, field-byte, value-more, whole-shift}
+use Rattle.bits.proofs.Whole.{field-same, field-bits, field-byte, value-more, whole-shift}
 use Rattle.bits.proofs.Mirrors.{mirrored-lt}
 use Rattle.chain.specs.Markov.{Row, Markov, Rising, LawfulRow, Lawful, weight-sum}
 use Rattle.packed_file.specs.Format.{layout, edge-fields, row-fields, bits, all-bits, number-at, bytes-from, packed}
 use Rattle.packed_file.proofs.Holding.{Holds, Bytes}
-
--- equal fields have equal bits
-field-bits : (xs ys : List ℕ) (p w : ℕ) → field xs p w ≡ field ys p w → (j : ℕ) → j < w → bit-at xs (p + j) ≡ bit-at ys (p + j)
-unfolding field
-field-bits xs ys p zero e j h = omega arith
-field-bits xs ys p (suc w) e j h =
-    let last : bit-at xs (p + w) ≡ bit-at ys (p + w) = omega arith in
-    let front : field xs p w ≡ field ys p w = omega arith in
-    elim (cases-eq j w) [
-      | inl q ↦ rw q last
-      | inr n ↦ field-bits xs ys p w front j (omega arith)
-    ]
 
 same-bits : (xs ys : List ℕ) (p : ℕ) (fs : List (ℕ × ℕ)) → Holds xs p fs → Holds ys p fs → (length xs ≡ length ys) × ((j : ℕ) → p ≤ j → j < 8 * length xs → bit-at xs j ≡ bit-at ys j)
 same-bits xs ys p [] h k =
