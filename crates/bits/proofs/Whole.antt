@@ -112,9 +112,9 @@ field-bytes bs i (suc n) word small digits =
     let n₈ : 8 * suc n ≡ 8 * n + 8 = omega arith in
     let less : word / 2 ^ 8 < 2 ^ (8 * n) = shr-lt (8 * n) 8 (rw n₈ at small) in
     let front = field-bytes bs i n (word / 2 ^ 8) less (λ k h.
-        let e : 8 + 8 * (n - 1 - k) ≡ 8 * (suc n - 1 - k) = omega arith in
-        let s = shr-shr word 8 (8 * (n - 1 - k)) in
-        rw (s, e) (digits k (omega arith))) in
+    let e : 8 + 8 * (n - 1 - k) ≡ 8 * (suc n - 1 - k) = omega arith in
+    let s = shr-shr word 8 (8 * (n - 1 - k)) in
+    rw (s, e) (digits k (omega arith))) in
     let z : 8 * (suc n - 1 - n) ≡ 0 = omega arith in
     let byte : getD bs (i + n) 0 ≡ word % 256 = (rw z at (digits n (omega arith))) ∙ omega arith in
     let last : field bs (8 * i + 8 * n) 8 ≡ word % 256 =

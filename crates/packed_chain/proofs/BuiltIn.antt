@@ -11,7 +11,7 @@ use Rattle.packed_file.specs.declared.fault.FileFault.{FileFault}
 use Rattle.packed_file.specs.Format.{edges-at, rows-at, decoded}
 use Rattle.packed_file.specs.Faults.{judged, edges-demands, rows-demands}
 use Rattle.packed_file.specs.Judgement.{Faultless}
-use Rattle.packed_chain.specs.TakenUp.{taken-up}
+use Rattle.packed_file.specs.TakenUp.{taken-up}
 
 abbrev pub built-in-body : List ℕ
 built-in-body = 0 ∷ 0 ∷ 0 ∷ 0x40 ∷ 0 ∷ 0 ∷ 0 ∷ 2 ∷ 0 ∷ 0 ∷ 0 ∷ 0x80 ∷ []

@@ -5,7 +5,7 @@ ghost use Rattle.packed_file.specs.Format.{decoded};
 ghost use Rattle.packed_file.specs.Judgement.{Faultless};
 ghost use Rattle.packed_file.proofs.Judged.{faultless-lawful};
 ghost use Rattle.packed_chain.specs.Meaning.{meaning-of};
-ghost use Rattle.packed_chain.specs.TakenUp.{taken-up};
+ghost use Rattle.packed_file.specs.TakenUp.{taken-up};
 use crate::packed_chain::PackedChain;
 use crate::rows::row_places;
 use bits::fields::get;

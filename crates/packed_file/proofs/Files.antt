@@ -46,12 +46,12 @@ one-body xs ys fs bx by h k =
     sym (field-byte xs i (bx i l)) ∙ e ∙ field-byte ys i (by i ly))
 
 -- a list of bits cut into bytes has these bits
-length-bits : (w v : ℕ) → length (bits w v) ≡ w
+pub length-bits : (w v : ℕ) → length (bits w v) ≡ w
 unfolding bits
 length-bits zero v = refl
 length-bits (suc w) v = ap suc (length-bits w v)
 
-length-bytes-from : (xs : List ℕ) (p k : ℕ) → length (bytes-from xs p k) ≡ k
+pub length-bytes-from : (xs : List ℕ) (p k : ℕ) → length (bytes-from xs p k) ≡ k
 unfolding bytes-from
 length-bytes-from xs p zero = refl
 length-bytes-from xs p (suc k) = ap suc (length-bytes-from xs (p + 8) k)

@@ -13,6 +13,7 @@ use Rattle.chain.specs.Markov.{Markov, Lawful}
 use Rattle.packed_file.specs.declared.fault.FileFault.{FileFault}
 use Rattle.packed_file.specs.Format.{marked, layout, packed, encode, decoded}
 use Rattle.packed_file.specs.Faults.{demands, body-demands, judged}
+use Rattle.packed_file.specs.TakenUp.{taken-up}
 use Rattle.packed_file.specs.Judgement.{Judges, Faultless}
 use Rattle.packed_file.proofs.Holding.{Holds, Bytes}
 use Rattle.packed_file.proofs.Files.{packed-holds, holds-packed}
@@ -31,7 +32,7 @@ judged-marked : (body : List ℕ) → Faultless body → judged (marked body) �
 judged-marked body h = met-told (body-demands body) (tt {0}) (ok-met (body-demands body) (tt {0}) h)
 
 -- the file of a lawful chain decodes to that chain, and is accepted
-pub encoded-decoded : (c : Markov) → Lawful c → decoded (packed (layout c)) ≡ c
+encoded-decoded : (c : Markov) → Lawful c → decoded (packed (layout c)) ≡ c
 encoded-decoded c l = sym (one-chain (packed (layout c)) c l (packed-holds c l))
 
 encoded-met : (c : Markov) → Lawful c → Met (body-demands (packed (layout c)))
@@ -42,6 +43,9 @@ encoded-met c l =
 
 pub encoded-judged : (c : Markov) → Lawful c → judged (encode c) ≡ Ok (tt {0})
 encoded-judged c l = met-told (body-demands (packed (layout c))) (tt {0}) (encoded-met c l)
+
+pub encoded-taken-up : (c : Markov) → Lawful c → taken-up (encode c) ≡ c
+encoded-taken-up c l = rw (encoded-judged c l) (encoded-decoded c l)
 
 judges-marked : (body : List ℕ) → Bytes body → Faultless body → Judges (marked body) (Ok (tt {0}))
 judges-marked body small h =

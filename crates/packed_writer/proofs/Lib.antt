@@ -1,0 +1,3 @@
+pub mod Finish
+pub mod Inside
+pub mod Steps
