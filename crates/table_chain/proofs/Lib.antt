@@ -1,0 +1,2 @@
+pub mod BuiltIn
+pub mod Lookup

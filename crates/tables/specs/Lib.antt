@@ -1,0 +1,5 @@
+pub mod Number
+pub mod Tabled
+pub mod Faults
+pub mod Judgement
+pub mod TakenUp
