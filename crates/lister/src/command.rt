@@ -1,6 +1,7 @@
 //! The commands, by their words.
 use crate::check::check_file;
-use std::env::Args;
+use crate::copy::copy_file;
+use crate::show::show_file;
 use std::io;
 
 const USAGE: &str = "\
@@ -8,6 +9,10 @@ lister: counterexamples for Markov chains with whole-number weights
 
   lister check FILE   Is FILE the packed file of a chain? If not, what is wrong with it, and where?
                       lister check examples/firing.chain
+  lister show FILE    The chain of FILE for a person, a line for each state.
+                      lister show examples/firing.chain
+  lister copy FROM TO Takes up the chain of FROM, and writes its file to TO.
+                      lister copy examples/firing.chain /tmp/copy.chain
   lister help         This page.
 
 The first line of an answer is for machines, the lines after it are for people.
@@ -35,13 +40,13 @@ fn wrong_usage(rt: &LibcRuntime) -> io::Result<Outcome> {
 }
 
 /// Carries out the command that the words after the program's name give.
-pub(crate) fn obey(rt: &LibcRuntime, mut words: Args) -> io::Result<Outcome> {
-    let Some(verb) = words.next() else {
-        return help(rt);
-    };
-    match (verb.as_str(), words.next(), words.next()) {
-        ("help", None, None) => help(rt),
-        ("check", Some(path), None) => check_file(rt, path.as_str()),
+pub(crate) fn obey(rt: &LibcRuntime, words: &[String]) -> io::Result<Outcome> {
+    match words {
+        [] => help(rt),
+        [verb] if verb.as_str() == "help" => help(rt),
+        [verb, path] if verb.as_str() == "check" => check_file(rt, path.as_str()),
+        [verb, path] if verb.as_str() == "show" => show_file(rt, path.as_str()),
+        [verb, from, to] if verb.as_str() == "copy" => copy_file(rt, from.as_str(), to.as_str()),
         _ => wrong_usage(rt),
     }
 }

@@ -1,7 +1,9 @@
 //! The lister's program: its arguments, files and words, over the library.
 mod check;
 mod command;
+mod copy;
 mod input;
+mod show;
 mod words;
 
 use crate::command::Outcome;
@@ -14,9 +16,8 @@ use std::io;
 struct Failed;
 
 fn run(rt: &LibcRuntime) -> io::Result<Outcome> {
-    let mut arguments = env::args(rt)?;
-    let _program = arguments.next();
-    obey(rt, arguments)
+    let words: Vec<String> = env::args(rt)?.skip(1).collect(rt.alloc())?;
+    obey(rt, words.as_slice())
 }
 
 fn main(rt: LibcRuntime) -> Result<(), Failed> {

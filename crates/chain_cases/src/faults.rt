@@ -1,0 +1,1 @@
+//! Every fault of tables, at the first and the last state where it can arise.
