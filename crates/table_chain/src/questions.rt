@@ -4,11 +4,9 @@ ghost use Prim.Native.Nat.{ℕ, _≤_, _<_};
 ghost use denote.Ref.{now};
 ghost use lib.ListN.{length, getD};
 ghost use Rattle.chain.specs.Limits.{most-states};
-ghost use Rattle.tables.specs.Faults.{Faultless};
 ghost use Rattle.table_chain.specs.Meaning.{meaning-of};
 ghost use Rattle.table_chain.specs.Places.{first-edge};
-ghost use Rattle.tables.specs.Tabled.{tabled};
-ghost use Rattle.tables.specs.TakenUp.{taken-up};
+ghost use Rattle.tables.specs.Lent.{FaultlessOf, chain-of, taken-up-of};
 ghost use Rattle.tables.proofs.Fits.{faultless-lawful};
 use crate::table_chain::TableChain;
 use chain::Chain;
@@ -30,7 +28,7 @@ static BUILT_IN_EDGES: [TableEdge; 1] = [TableEdge {
 
 /// Where the edges of each state begin.
 fn first_edges(tables: &Tables) -> [u32; MOST_STATES]
-    requires faultless { ⌜ Faultless (now (now tables .rows)) (now (now tables .edges)) (now tables .start) (now tables .denominator) ⌝ }
+    requires faultless { ⌜ FaultlessOf (now tables) ⌝ }
     ensures full { λ r. ⌜ length r ≡ most-states ⌝ }
     ensures placed { λ r. ⌜ ((s : ℕ) → s < length (now (now (tables .entry) .rows)) → getD r s 0 ≡ first-edge (now (now (tables .entry) .rows)) s) ⌝ }
 {
@@ -45,9 +43,8 @@ fn first_edges(tables: &Tables) -> [u32; MOST_STATES]
 
 /// The tables, or those of the built-in chain where the tables have a fault.
 fn faultless_or_built_in<'a>(tables: Tables<'a>) -> Tables<'a>
-    ensures faultless { λ r. ⌜ Faultless (now (r .rows)) (now (r .edges)) (r .start) (r .denominator) ⌝ }
-    ensures meaning { λ r. ⌜ tabled (now (r .rows)) (now (r .edges)) (r .start) (r .denominator)
-        ≡ taken-up (now (tables .entry .rows)) (now (tables .entry .edges)) (tables .entry .start) (tables .entry .denominator) ⌝ }
+    ensures faultless { λ r. ⌜ FaultlessOf r ⌝ }
+    ensures meaning { λ r. ⌜ chain-of r ≡ taken-up-of (tables .entry) ⌝ }
 {
     match check(&tables) {
         Ok(()) => tables,
@@ -63,7 +60,7 @@ fn faultless_or_built_in<'a>(tables: Tables<'a>) -> Tables<'a>
 impl<'a> TableChain<'a> {
     /// Takes up tables: their chain, or the built-in chain where they have a fault.
     pub fn new(tables: Tables<'a>) -> TableChain<'a>
-        ensures { λ r. ⌜ meaning-of r ≡ taken-up (now (tables .entry .rows)) (now (tables .entry .edges)) (tables .entry .start) (tables .entry .denominator) ⌝ }
+        ensures { λ r. ⌜ meaning-of r ≡ taken-up-of (tables .entry) ⌝ }
     {
         let sound = faultless_or_built_in(tables);
         let firsts = first_edges(&sound);

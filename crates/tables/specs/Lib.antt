@@ -3,3 +3,4 @@ pub mod Tabled
 pub mod Faults
 pub mod Judgement
 pub mod TakenUp
+pub mod Lent

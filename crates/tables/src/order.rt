@@ -7,8 +7,8 @@ ghost use Rattle.chain.specs.Limits.{most-states, most-edges};
 ghost use Rattle.chain.specs.Markov.{weight-sum};
 ghost use Rattle.refusal.specs.Demands.{told};
 ghost use Rattle.tables.specs.Tabled.{edge-at, row-at, edges-from};
-ghost use Rattle.tables.specs.Judgement.{Judges};
-ghost use Rattle.tables.specs.Faults.{edge-demands, edges-demands, row-demands, rows-demands, head-demands, judged};
+ghost use Rattle.tables.specs.Lent.{judged-of, JudgesOf};
+ghost use Rattle.tables.specs.Faults.{edge-demands, edges-demands, row-demands, rows-demands, head-demands};
 use crate::fault::TableFault;
 use crate::tables::TableEdge;
 use crate::tables::TableRow;
@@ -102,7 +102,8 @@ fn check_row(
 /// The rows, and that no edge is left.
 fn check_rows(tables: &Tables) -> Result<(), Refusal<TableFault>>
     requires { ⌜ length (now (now tables .rows)) ≤ most-states ⌝ }
-    ensures { λ r. ⌜ r ≡ told (rows-demands (now (now (tables .entry) .rows)) (now (now (tables .entry) .edges)) (length (now (now (tables .entry) .rows))) (now (tables .entry) .denominator) (length (now (now (tables .entry) .rows))) 0 0) tt ⌝ }
+    ensures { λ r. ⌜ r ≡ told (rows-demands (now (now (tables .entry) .rows)) (now (now (tables .entry) .edges))
+        (length (now (now (tables .entry) .rows))) (now (tables .entry) .denominator) (length (now (now (tables .entry) .rows))) 0 0) tt ⌝ }
 {
     let states = tables.rows.len();
     let mut before = 0;
@@ -147,7 +148,7 @@ fn check_head(states: usize, start: usize, denominator: u32) -> Result<(), Refus
 }
 
 fn first_fault(tables: &Tables) -> Result<(), Refusal<TableFault>>
-    ensures { λ r. ⌜ r ≡ judged (now (now (tables .entry) .rows)) (now (now (tables .entry) .edges)) (now (tables .entry) .start) (now (tables .entry) .denominator) ⌝ }
+    ensures { λ r. ⌜ r ≡ judged-of (now (tables .entry)) ⌝ }
 {
     check_head(tables.rows.len(), tables.start, tables.denominator)?;
     check_rows(tables)
@@ -155,8 +156,8 @@ fn first_fault(tables: &Tables) -> Result<(), Refusal<TableFault>>
 
 /// Whether the tables are a chain's; if not, the first fault in the order of a file.
 pub fn check(tables: &Tables) -> Result<(), Refusal<TableFault>>
-    ensures value { λ r. ⌜ r ≡ judged (now (now (tables .entry) .rows)) (now (now (tables .entry) .edges)) (now (tables .entry) .start) (now (tables .entry) .denominator) ⌝ }
-    ensures judges { λ r. ⌜ Judges (now (now (tables .entry) .rows)) (now (now (tables .entry) .edges)) (now (tables .entry) .start) (now (tables .entry) .denominator) r ⌝ }
+    ensures value { λ r. ⌜ r ≡ judged-of (now (tables .entry)) ⌝ }
+    ensures judges { λ r. ⌜ JudgesOf (now (tables .entry)) r ⌝ }
 {
     first_fault(tables)?;
     Ok(())
