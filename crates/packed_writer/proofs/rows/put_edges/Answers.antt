@@ -17,11 +17,13 @@ loop-k-again g c =
     let es = row-of (g .C·Chain .meaning (c .args .chain .now)) (c .args .state) .edges in
     let n = c .edge-count-of-count .ensures .value in
     let lt : c .loop-k .k < length es = omega arith in
-    edges-next (c .args .buffer .now) (c .loop-k .buffer) (c .put-edge .last .buffer) (c .args .first) (c .loop-k .k) es (c .edge-of-target .result) lt (c .edge-of-target .ensures .value) (c .loop-k .inv) (c .put-edge .ensures)
+    edges-next (c .args .buffer .now) (c .loop-k .buffer) (c .put-edge .last .buffer) (c .args .first) (c .loop-k .k) es
+    (c .edge-of-target .result) lt (c .edge-of-target .ensures .value) (c .loop-k .inv) (c .put-edge .ensures)
 
 pub returns : need.returns
 returns g c =
     let es = row-of (g .C·Chain .meaning (c .args .chain .now)) (c .args .state) .edges in
     let n = c .edge-count-of-count .ensures .value in
     let e : c .args .first + 26 * c .loop-k .k ≡ c .args .first + 26 * length es = omega arith in
-    wrote-to (c .args .buffer .now) (c .loop-k .buffer) (c .args .first) _ _ _ e (wrote-all edge-fields (c .args .buffer .now) (c .loop-k .buffer) (c .args .first) _ es (c .loop-k .k) (omega arith) (c .loop-k .inv))
+    wrote-to (c .args .buffer .now) (c .loop-k .buffer) (c .args .first) _ _ _ e
+    (wrote-all edge-fields (c .args .buffer .now) (c .loop-k .buffer) (c .args .first) _ es (c .loop-k .k) (omega arith) (c .loop-k .inv))

@@ -27,7 +27,8 @@ loop-state-again g c =
     let lt : c .loop-state .state < length (m .rows) = omega arith in
     let r = room-row m (c .loop-state .state) (c .loop-state .at) lt (c .loop-state .inv .1) in
     let e = c .put-row-at .ensures .next in (
-      wrote-next row-fields (c .args .buffer .now) (c .loop-state .buffer) (c .put-row-at .last .buffer) (16 + 36) (c .loop-state .at) (c .put-row-at .result) (m .rows) (c .loop-state .state) no-row lt (c .loop-state .inv .0) (c .put-row-at .ensures .wrote),
+      wrote-next row-fields (c .args .buffer .now) (c .loop-state .buffer) (c .put-row-at .last .buffer) (16 + 36) (c .loop-state .at) (c .put-row-at .result)
+          (m .rows) (c .loop-state .state) no-row lt (c .loop-state .inv .0) (c .put-row-at .ensures .wrote),
       omega arith,
     )
 

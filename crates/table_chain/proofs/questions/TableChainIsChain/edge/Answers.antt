@@ -4,10 +4,12 @@ use Rattle.table_chain.proofs.Lookup.{edge-no-row, edge-past, edge-found, with
 use Rattle.table_chain.proofs.questions.TableChainIsChain.edge.Needs as need
 
 pub returns-then-state-self : need.returns-then-state-self
-returns-then-state-self c = let t = c .args .self .now in edge-no-row (t .rows .now) (t .edges .now) (t .start) (t .denominator) (t .faultless) (c .args .state) (c .args .place) (c .if-state-self .taken)
+returns-then-state-self c = let t = c .args .self .now in edge-no-row (t .rows .now) (t .edges .now) (t .start) (t .denominator) (t .faultless) (c .args .state) (c .args .place)
+    (c .if-state-self .taken)
 
 pub returns-then-place-self : need.returns-then-place-self
-returns-then-place-self c = let t = c .args .self .now in edge-past (t .rows .now) (t .edges .now) (t .start) (t .denominator) (t .faultless) (c .args .state) (c .args .place) (c .if-state-self .left) (c .if-place-self .taken)
+returns-then-place-self c = let t = c .args .self .now in edge-past (t .rows .now) (t .edges .now) (t .start) (t .denominator) (t .faultless) (c .args .state) (c .args .place)
+    (c .if-state-self .left) (c .if-place-self .taken)
 
 pub add-edge : need.add-edge
 add-edge c =
@@ -34,4 +36,5 @@ index-self-self c =
     omega arith
 
 pub returns : need.returns
-returns c = let t = c .args .self .now in edge-found (t .rows .now) (t .edges .now) (t .start) (t .denominator) (t .faultless) (c .args .state) (c .args .place) _ (c .if-state-self .left) (c .if-place-self .left) (t .placed (c .args .state) (c .if-state-self .left))
+returns c = let t = c .args .self .now in edge-found (t .rows .now) (t .edges .now) (t .start) (t .denominator) (t .faultless) (c .args .state) (c .args .place) _
+    (c .if-state-self .left) (c .if-place-self .left) (t .placed (c .args .state) (c .if-state-self .left))
