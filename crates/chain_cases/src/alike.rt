@@ -1,7 +1,7 @@
 //! A chain from tables, and the chain of the file that is written from it, answer every question alike.
 use crate::makes::Made;
 use crate::makes::deep;
-use crate::makes::firing;
+use crate::makes::four_states;
 use crate::makes::largest;
 use crate::makes::wide;
 use chain::Chain;
@@ -56,8 +56,8 @@ fn written_alike(heap: Global, made: Made) -> Result<(), Fail> {
 }
 
 #[test]
-fn firing_alike(rt: LibcRuntime) -> Result<(), Fail> {
-    written_alike(rt.alloc(), firing(rt.alloc())?)
+fn four_states_alike(rt: LibcRuntime) -> Result<(), Fail> {
+    written_alike(rt.alloc(), four_states(rt.alloc())?)
 }
 
 #[test]
@@ -77,7 +77,7 @@ fn largest_alike(rt: LibcRuntime) -> Result<(), Fail> {
 
 #[test]
 fn short_buffer(rt: LibcRuntime) -> Result<(), Fail> {
-    let made = firing(rt.alloc())?;
+    let made = four_states(rt.alloc())?;
     let chain = TableChain::new(made.lent());
     let mut buffer = [7u8; 49];
     let refusal = Refusal {

@@ -2,7 +2,7 @@
 use crate::faults::Damage::*;
 use crate::faults::Shape::*;
 use crate::makes::Made;
-use crate::makes::firing;
+use crate::makes::four_states;
 use crate::makes::largest;
 use chain::Chain;
 use refusal::Refusal;
@@ -24,7 +24,7 @@ use tables::check as check_tables;
 
 #[derive(Clone, Copy)]
 enum Shape {
-    Firing,
+    FourStates,
     Largest,
 }
 
@@ -44,28 +44,28 @@ enum Damage {
 type Case = (Shape, Damage, TableFault, u32, usize);
 
 const CASES: [Case; 23] = [
-    (Firing, OneEdgeLess, EdgesRunOut, 3, 3),
+    (FourStates, OneEdgeLess, EdgesRunOut, 3, 3),
     (Largest, OneEdgeLess, EdgesRunOut, 3, 1023),
-    (Firing, Denominator(0), BadDenominator, 4, 0),
-    (Firing, Denominator(65_536), BadDenominator, 4, 0),
-    (Firing, Denominator(u32::MAX), BadDenominator, 4, 0),
-    (Firing, Start(4), StartOutside, 5, 0),
+    (FourStates, Denominator(0), BadDenominator, 4, 0),
+    (FourStates, Denominator(65_536), BadDenominator, 4, 0),
+    (FourStates, Denominator(u32::MAX), BadDenominator, 4, 0),
+    (FourStates, Start(4), StartOutside, 5, 0),
     (Largest, Start(usize::MAX), StartOutside, 5, 0),
-    (Firing, Target(0, 4), BadTarget, 6, 0),
-    (Firing, Target(1, 1), BadTarget, 6, 0),
+    (FourStates, Target(0, 4), BadTarget, 6, 0),
+    (FourStates, Target(1, 1), BadTarget, 6, 0),
     (Largest, Target(4095, 2), BadTarget, 6, 1023),
     (Largest, Target(4095, usize::MAX), BadTarget, 6, 1023),
-    (Firing, Weight(0, 0), ZeroWeight, 7, 0),
+    (FourStates, Weight(0, 0), ZeroWeight, 7, 0),
     (Largest, Weight(4095, 0), ZeroWeight, 7, 1023),
-    (Firing, Weight(0, 7), WrongSum, 8, 0),
-    (Firing, Weight(0, u32::MAX), WrongSum, 8, 0),
-    (Firing, Count(0, 0), WrongSum, 8, 0),
+    (FourStates, Weight(0, 7), WrongSum, 8, 0),
+    (FourStates, Weight(0, u32::MAX), WrongSum, 8, 0),
+    (FourStates, Count(0, 0), WrongSum, 8, 0),
     (Largest, Weight(4095, 65_533), WrongSum, 8, 1023),
-    (Firing, Count(0, 4097), TooManyEdges, 9, 0),
-    (Firing, Count(3, usize::MAX), TooManyEdges, 9, 3),
+    (FourStates, Count(0, 4097), TooManyEdges, 9, 0),
+    (FourStates, Count(3, usize::MAX), TooManyEdges, 9, 3),
     (Largest, Count(1023, 5), TooManyEdges, 9, 1023),
-    (Firing, OneEdgeMore, Leftover, 10, 4),
-    (Firing, Count(3, 0), WrongSum, 8, 3),
+    (FourStates, OneEdgeMore, Leftover, 10, 4),
+    (FourStates, Count(3, 0), WrongSum, 8, 3),
     (Largest, OneEdgeMore, Leftover, 10, 1024),
 ];
 
@@ -113,7 +113,7 @@ fn apply(made: &mut Made, damage: Damage) -> Result<(), AllocError> {
 
 fn shaped(heap: Global, shape: Shape) -> Result<Made, AllocError> {
     match shape {
-        Firing => firing(heap),
+        FourStates => four_states(heap),
         Largest => largest(heap),
     }
 }
@@ -150,6 +150,6 @@ fn row_counts(rt: LibcRuntime) -> Result<(), Fail> {
 
 #[test]
 fn lawful(rt: LibcRuntime) -> Result<(), Fail> {
-    check_eq(check_tables(&firing(rt.alloc())?.lent()), Ok(()))?;
+    check_eq(check_tables(&four_states(rt.alloc())?.lent()), Ok(()))?;
     check_eq(check_tables(&largest(rt.alloc())?.lent()), Ok(()))
 }

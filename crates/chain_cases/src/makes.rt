@@ -52,7 +52,7 @@ fn empty(heap: Global, start: usize, denominator: u32) -> Made {
 }
 
 /// Four states, nine edges, out of 10.
-pub(crate) fn firing(heap: Global) -> Result<Made, AllocError> {
+pub(crate) fn four_states(heap: Global) -> Result<Made, AllocError> {
     let mut made = empty(heap, 0, 10);
     made.row(1, &[(1, 6), (2, 1), (3, 3)])?;
     made.row(1, &[(0, 2), (1, 3), (2, 4), (3, 1)])?;

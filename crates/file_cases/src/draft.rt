@@ -100,7 +100,7 @@ pub(crate) fn one_state(heap: Global, change: Change) -> Result<Vec<u8>, AllocEr
 }
 
 /// Four states, nine edges, out of 10.
-pub(crate) fn firing(heap: Global, change: Change) -> Result<Vec<u8>, AllocError> {
+pub(crate) fn four_states(heap: Global, change: Change) -> Result<Vec<u8>, AllocError> {
     let mut file = Draft::new(heap, change);
     file.header(4, 10, 0)?;
     file.row(0x8000, &[(1, 6), (2, 1), (3, 3)])?;

@@ -1,6 +1,6 @@
 //! Every fault, at the first and the last place where it can arise.
 use crate::draft::Change;
-use crate::draft::firing;
+use crate::draft::four_states;
 use crate::draft::largest;
 use crate::draft::one_state;
 use crate::draft::widest_rows;
@@ -21,7 +21,7 @@ use std::test::*;
 #[derive(Clone, Copy)]
 enum Shape {
     OneState,
-    Firing,
+    FourStates,
     Largest,
     WidestRows,
 }
@@ -61,9 +61,9 @@ const CASES: [Case; 24] = [
     (OneState, 42, 1, Whole, StartOutside, 5, 42),
     (Largest, 16, 1022, Whole, StartOutside, 5, 42),
     (OneState, 79, 1, Whole, BadTarget, 6, 79),
-    (Firing, 105, 1, Whole, BadTarget, 6, 105),
-    (Firing, 105, 0, Whole, BadTarget, 6, 105),
-    (Firing, 131, 4, Whole, BadTarget, 6, 131),
+    (FourStates, 105, 1, Whole, BadTarget, 6, 105),
+    (FourStates, 105, 0, Whole, BadTarget, 6, 105),
+    (FourStates, 131, 4, Whole, BadTarget, 6, 131),
     (Largest, LAST_TARGET, 2, Whole, BadTarget, 6, LAST_TARGET),
     (OneState, 89, 0, Whole, ZeroWeight, 7, 89),
     (Largest, LAST_WEIGHT, 0, Whole, ZeroWeight, 7, LAST_WEIGHT),
@@ -82,7 +82,7 @@ const CASES: [Case; 24] = [
 fn shaped(heap: Global, shape: Shape, change: Change) -> Result<Vec<u8>, AllocError> {
     match shape {
         OneState => one_state(heap, change),
-        Firing => firing(heap, change),
+        FourStates => four_states(heap, change),
         Largest => largest(heap, change),
         WidestRows => widest_rows(heap, change),
     }

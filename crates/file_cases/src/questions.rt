@@ -1,6 +1,6 @@
 //! What the chains taken up from files answer.
 use crate::draft::UNCHANGED;
-use crate::draft::firing;
+use crate::draft::four_states;
 use crate::draft::largest;
 use chain::BuiltIn;
 use chain::BuiltInIsChain;
@@ -17,8 +17,8 @@ fn numbers(chain: &impl Chain) -> (usize, usize, usize, u32) {
 }
 
 #[test]
-fn firing_answers(rt: LibcRuntime) -> Result<(), Fail> {
-    let bytes = firing(rt.alloc(), UNCHANGED)?;
+fn four_states_answer(rt: LibcRuntime) -> Result<(), Fail> {
+    let bytes = four_states(rt.alloc(), UNCHANGED)?;
     let chain = PackedChain::new(bytes.as_slice());
     check_eq(numbers(&chain), (4, 9, 0, 10))?;
     let letters = [chain.propositions(0), chain.propositions(2)];
