@@ -1,6 +1,6 @@
 -- A Markov chain with whole-number weights, and which of them are lawful.
 use Rattle.std.specs.Prelude.{◌≡◌, ℕ, ◌+◌, ◌^◌, ◌<◌, ◌≤◌, List, [], ◌∷◌, length}
-use Rattle.std.specs.List.{AllByRecursion as All}
+use Rattle.std.specs.List.{AllByRecursion}
 use Rattle.chain.specs.Limits.{most_states, most_edges, most_denominator, letters}
 
 -- A state's propositions are a number: bit 0 stands for a, bit 1 for b and so on.
@@ -41,7 +41,7 @@ pub record Lawful (c : Markov) : Type 0 where
   pub divides : 1 ≤ c.denominator
   pub divided : c.denominator ≤ most_denominator
   pub sparse : edges_in c.rows ≤ most_edges
-  pub each : All (LawfulRow (length c.rows) c.denominator) c.rows
+  pub each : AllByRecursion (LawfulRow (length c.rows) c.denominator) c.rows
 
 -- One state without propositions that stays where it is.
 abbrev pub built_in : Markov

@@ -1,4 +1,6 @@
 //! Markov chains with whole-number weights: the interface, its limits, and the built-in chain.
+#![tactic(auto)]
+
 mod built_in;
 mod interface;
 mod limits;

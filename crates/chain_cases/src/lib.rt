@@ -1,4 +1,6 @@
 //! Tables worked through, and chains that are the same as tables and as files.
+#![tactic(auto)]
+
 #[cfg(test)]
 mod alike;
 #[cfg(test)]

@@ -1,4 +1,6 @@
 //! The state formulas in the text of a property, read into a table of parts.
+#![tactic(auto)]
+
 mod formulas;
 mod tokens;
 

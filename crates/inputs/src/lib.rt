@@ -1,4 +1,6 @@
 //! What the program's commands are given: files and properties that are accepted; of any other it is told what is wrong.
+#![tactic(auto)]
+
 mod file_words;
 mod files;
 mod properties;

@@ -1,4 +1,6 @@
 //! The lister's program: its arguments, files and words, over the library.
+#![tactic(auto)]
+
 mod check;
 mod command;
 mod copy;

@@ -1,4 +1,6 @@
 //! A chain that is read straight from the bytes of its packed file.
+#![tactic(auto)]
+
 mod packed_chain;
 mod questions;
 mod rows;

@@ -1,7 +1,7 @@
 -- The fields of a lawful chain have exactly one body, the packed one.
 use Rattle.std.proofs.Common.{◌≡◌, ℕ, zero, suc, ◌+◌, ◌-◌, ◌*◌, ◌/◌, ◌%◌, ◌^◌, ◌<◌, ◌≤◌, List, [], ◌∷◌, ◌++◌, length, get_or, sym, refl, ap, ◌∙◌, inl, inr, pow-suc, arith, length-append, pow_pos, shr-shr}
 use native.Mathlib.Nat.{div-eq_of_lt}
-use Rattle.std.specs.List.{flat_map, AllByRecursion as All}
+use Rattle.std.specs.List.{flat_map, AllByRecursion}
 use Rattle.std.proofs.ByRecursion.{All-append}
 use Rattle.std.proofs.lemmas.List.{ext_get_or, get_or_append_left, get_or-append-add}
 use Rattle.std.proofs.lemmas.Bool.{cases_lt, cases_eq}
@@ -111,7 +111,7 @@ zero_bit : (k : ℕ) → 0 ≡ 0 / 2 ^ k % 2
 zero_bit k = rw (zero_shift k)
 
 Fit : List (ℕ × ℕ) → Type 0
-Fit fs = All (λ f. f.1 < 2 ^ f.0) fs
+Fit fs = AllByRecursion (λ f. f.1 < 2 ^ f.0) fs
 
 bits_at : (bs : List ℕ) (p : ℕ) (fs : List (ℕ × ℕ)) → Fit fs → p + length (all_bits fs) ≤ 8 * length bs → 8 * length bs < p + length (all_bits fs) + 8
     → ((j : ℕ) → p + j < 8 * length bs → bit_at bs (p + j) ≡ get_or (all_bits fs) j 0) → Holds bs p fs
@@ -168,7 +168,7 @@ unfolding Fit
 edges_fit n d low [] a b c r = tt
 edges_fit n d low (e ∷ es) a b c r = let t = r.1 in ((omega arith), ((omega arith), edges_fit n d (e.0 + 1) es a b (omega arith) r.3))
 
-rows_fit : (n d : ℕ) (rs : List Row) → n ≤ 1024 → d < 2 ^ 16 → All (LawfulRow n d) rs → Fit (flat_map row_fields rs)
+rows_fit : (n d : ℕ) (rs : List Row) → n ≤ 1024 → d < 2 ^ 16 → AllByRecursion (LawfulRow n d) rs → Fit (flat_map row_fields rs)
 unfolding Fit
 rows_fit n d [] a b r = tt
 rows_fit n d (x ∷ xs) a b r =

@@ -1,6 +1,6 @@
 -- A body breaks no demand exactly where it is that of a lawful chain.
 use Rattle.std.proofs.Common.{◌≡◌, ℕ, zero, suc, ◌+◌, ◌-◌, ◌*◌, ◌^◌, ◌<◌, ◌≤◌, true, ◌&&◌, eqb, ltb, leb, List, [], ◌∷◌, ◌++◌, length, sym, refl, ap, ◌∙◌, subst, arith}
-use Rattle.std.specs.List.{flat_map, AllByRecursion as All}
+use Rattle.std.specs.List.{flat_map, AllByRecursion}
 use Rattle.std.proofs.lemmas.Bool.{and_parts, and_from, leb-true, ltb-true, eqb-true, le-leb, lt-ltb, eq-eqb}
 use Rattle.refusal.specs.Demands.{Met}
 use Rattle.refusal.proofs.Told.{met_append, met_left, met_right}
@@ -60,7 +60,7 @@ module _ (bs : List ℕ) (n d : ℕ) where
         whole = eqb-true _ d (met_right es last h.1.1.1).0;
       }
 
-  rows_lawful : (k p m : ℕ) → Met (rows_demands bs n d k p m) → All (LawfulRow n d) (rows_at bs p k)
+  rows_lawful : (k p m : ℕ) → Met (rows_demands bs n d k p m) → AllByRecursion (LawfulRow n d) (rows_at bs p k)
   unfolding rows_demands rows_at
   rows_lawful zero p m h = tt
   rows_lawful (suc k) p m h = (
@@ -135,7 +135,7 @@ edges_same bs p (e ∷ es) fs h =
       rw (step p (length es)) at rest.1,
     )
 
-rows_same : (bs : List ℕ) (n d p : ℕ) (rs : List Row) → All (LawfulRow n d) rs → Holds bs p (flat_map row_fields rs) → rows_at bs p (length rs) ≡ rs
+rows_same : (bs : List ℕ) (n d p : ℕ) (rs : List Row) → AllByRecursion (LawfulRow n d) rs → Holds bs p (flat_map row_fields rs) → rows_at bs p (length rs) ≡ rs
 unfolding rows_at
 rows_same bs n d p [] l h = refl
 rows_same bs n d p (r ∷ rs) l h =
@@ -171,7 +171,7 @@ edges_met bs n (suc k) p low fs r h = (
   ),
 )
 
-rows_met : (bs : List ℕ) (n d k p m : ℕ) → All (LawfulRow n d) (rows_at bs p k) → m + edges_in (rows_at bs p k) ≤ most_edges
+rows_met : (bs : List ℕ) (n d k p m : ℕ) → AllByRecursion (LawfulRow n d) (rows_at bs p k) → m + edges_in (rows_at bs p k) ≤ most_edges
     → Holds bs p (flat_map row_fields (rows_at bs p k)) → Met (rows_demands bs n d k p m)
 unfolding rows_demands rows_at
 rows_met bs n d zero p m r few h = (and_from (ltb (8 * length bs) (p + 8)) (eqb (field bs p (8 * length bs - p)) 0) (lt-ltb _ _ h.1) (eq-eqb _ _ h.2), tt)

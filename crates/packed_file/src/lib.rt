@@ -1,4 +1,6 @@
 //! The packed file of a chain: its format, its faults, and the check for them.
+#![tactic(auto)]
+
 mod edges;
 mod fault;
 mod fields;

@@ -1,4 +1,6 @@
 //! The packed file of any chain, written into a caller's buffer.
+#![tactic(auto)]
+
 mod asked;
 mod fault;
 mod file;

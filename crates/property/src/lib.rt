@@ -1,4 +1,6 @@
 //! A property: a ceiling for the probability to reach a goal through a ground within so many moves.
+#![tactic(auto)]
+
 mod ceiling;
 mod form;
 mod limits;

@@ -1,4 +1,6 @@
 //! Texts of properties worked through.
+#![tactic(auto)]
+
 #[cfg(test)]
 mod faults;
 #[cfg(test)]

@@ -31,7 +31,7 @@ impl PartTable {
         f: &mut fmt::Formatter<W>,
     ) -> fmt::Result
         requires { number < self.now.count }
-        ensures { WritesOnOk write_str_gives f.old result (form (held self.now) number kind) f.new }
+        ensures { WritesOnOk W.write_str_gives f.old result (form (held self.now) number kind) f.new }
     {
         if is_enclosed(self.part(number), kind) {
             f.write_str("(")?;
@@ -46,7 +46,7 @@ impl PartTable {
     #[cycle(write_part_write_state)]
     fn write_state<W: fmt::Write>(&self, number: usize, f: &mut fmt::Formatter<W>) -> fmt::Result
         requires { number < self.now.count }
-        ensures { WritesOnOk write_str_gives f.old result (form (held self.now) number State) f.new }
+        ensures { WritesOnOk W.write_str_gives f.old result (form (held self.now) number State) f.new }
     {
         match self.part(number) {
             Part::Letter(letter) => f.write_char((b'a' + letter) as char),

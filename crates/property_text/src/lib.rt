@@ -1,4 +1,6 @@
 //! The text of a property as tokens: what can be wrong with it, and single tokens at a place.
+#![tactic(auto)]
+
 mod fault;
 mod numbers;
 mod tokens;

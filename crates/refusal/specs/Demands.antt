@@ -1,6 +1,6 @@
 -- Demands in their order, and the refusal that the first broken one asks for.
 use Rattle.std.specs.Prelude.{◌≡◌, ℕ, Bool, true, false, cond, List, [], ◌∷◌, ◌++◌, Ok, Err, Result}
-use Rattle.std.specs.List.{AllByRecursion as All}
+use Rattle.std.specs.List.{AllByRecursion}
 use Rattle.refusal.specs.declared.Refusal.{Refusal}
 
 pub record Demand (F : Type 0) : Type 0 where
@@ -11,7 +11,7 @@ abbrev pub demand : {F : Type 0} → Bool → F → ℕ → Demand F
 demand b f p = record { met = b; refusal = record { fault = f; place = p } }
 
 abbrev pub Met : {F : Type 0} → List (Demand F) → Type 0
-Met ds = All (λ x. x.met ≡ true) ds
+Met ds = AllByRecursion (λ x. x.met ≡ true) ds
 
 -- the value where every demand is met, else the refusal of the first that is not
 abbrev pub told : {F A : Type 0} → List (Demand F) → A → Result A (Refusal F)

@@ -1,4 +1,5 @@
 //! Refusals: what is wrong, and where.
+#![tactic(auto)]
 
 /// A fault, and the place at which it was met.
 #[derive(Clone, Copy, PartialEq, Eq, Debug)]

@@ -1,4 +1,6 @@
 //! A chain over two tables in memory.
+#![tactic(auto)]
+
 mod questions;
 mod table_chain;
 

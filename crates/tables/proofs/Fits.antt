@@ -1,6 +1,6 @@
 -- Tables break no demand exactly where they write out a lawful chain and no further edge.
 use Rattle.std.proofs.Common.{◌≡◌, ℕ, zero, suc, ◌+◌, ◌-◌, ◌%◌, ◌^◌, ◌<◌, ◌≤◌, true, ◌&&◌, eqb, ltb, leb, List, [], ◌∷◌, ◌++◌, length, Ok, Err, sym, refl, ap, ◌∙◌, mod-lt, arith, pow_pos}
-use Rattle.std.specs.List.{AllByRecursion as All}
+use Rattle.std.specs.List.{AllByRecursion}
 use Rattle.std.proofs.lemmas.Bool.{and_parts, and_from, leb-true, ltb-true, eqb-true, le-leb, lt-ltb, eq-eqb}
 use Rattle.refusal.specs.declared.Refusal.{Refusal}
 use Rattle.refusal.specs.Demands.{demand, Met}
@@ -61,7 +61,7 @@ module _ (rs : List TableRow) (es : List TableEdge) (n d : ℕ) where
         whole = eqb-true _ d (met_right edges last h.1).0;
       }
 
-  rows_lawful : (k s m : ℕ) → Met (rows_demands rs es n d k s m) → All (LawfulRow n d) (rows_from rs es s m k)
+  rows_lawful : (k s m : ℕ) → Met (rows_demands rs es n d k s m) → AllByRecursion (LawfulRow n d) (rows_from rs es s m k)
   unfolding rows_demands rows_from
   rows_lawful zero s m h = tt
   rows_lawful (suc k) s m h = (
@@ -88,7 +88,7 @@ module _ (rs : List TableRow) (es : List TableEdge) (n d : ℕ) where
       let rest = rows_whole k (s + 1) (m + count) inside (met_right (row_demands es n d (row_at rs s) s m) _ h) in
       rw (length_edges es m count) (omega arith)
 
-  rows_met : (k s m : ℕ) → All (LawfulRow n d) (rows_from rs es s m k) → m + edges_in (rows_from rs es s m k) ≤ most_edges
+  rows_met : (k s m : ℕ) → AllByRecursion (LawfulRow n d) (rows_from rs es s m k) → m + edges_in (rows_from rs es s m k) ≤ most_edges
       → m + edges_in (rows_from rs es s m k) ≡ length es → Met (rows_demands rs es n d k s m)
   unfolding rows_demands rows_from
   rows_met zero s m a few e = (le-leb (length es) m (omega arith), tt)

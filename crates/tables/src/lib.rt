@@ -1,4 +1,6 @@
 //! A chain as two tables in memory: their faults, and the check for them.
+#![tactic(auto)]
+
 mod fault;
 mod order;
 mod tables;

@@ -5,6 +5,6 @@ use Rattle.bits.proofs.fields.put.Goals as goal
 pub returns : goal.returns
 returns c =
     let n = (c.args.at % 8 + c.args.width + 7) / 8 in
-    put_wrote c.args.bytes.now c.store.new.bytes c.args.at c.args.width c.args.value c.byte-or-zero.result n
-    (8 * n - c.args.at % 8 - c.args.width) c.joined-word.result c.requires.fits c.byte-or-zero.ensures.value c.byte-or-zero.ensures.bound
+    put_wrote c.args.bytes.now c.store.new.bytes c.args.at c.args.width c.args.value c.byte_or_zero.result n
+    (8 * n - c.args.at % 8 - c.args.width) c.joined-word.result c.requires.fits c.byte_or_zero.ensures.value c.byte_or_zero.ensures.bound
     (omega arith) (omega arith) c.joined-word.ensures c.store.ensures

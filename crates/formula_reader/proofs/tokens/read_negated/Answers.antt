@@ -10,10 +10,10 @@ returns c =
     let i = c.args.at in
     let start = c.args.parts.now in
     let mid = c.fill.new.parts in
-    let k = c.in-ok-letter.letter in
-    let a = subst (λ x. Filled start (Letter (x - 97)) mid k) c.byte-at-byte.ensures.value c.in-ok-letter.ensures in
+    let k = c.in_ok-letter.letter in
+    let a = subst (λ x. Filled start (Letter (x - 97)) mid k) c.byte_at-byte.ensures.value c.in_ok-letter.ensures in
     record {
       later = omega arith;
-      read = negated_made s c.args.place i start mid c.fill-2.new.parts k c.in-ok-number.number c.past-spaces.result
-          (is_lettered (get_or s i 0) (omega arith) (omega arith)) c.past-spaces.ensures.value a c.in-ok-number.ensures;
+      read = negated_made s c.args.place i start mid c.fill-2.new.parts k c.in_ok-number.number c.past_spaces.result
+          (is_lettered (get_or s i 0) (omega arith) (omega arith)) c.past_spaces.ensures.value a c.in_ok-number.ensures;
     }

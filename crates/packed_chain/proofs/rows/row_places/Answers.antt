@@ -10,19 +10,19 @@ loop-state-init c =
     let all : c.args.states - 0 ≡ states_in c.args.body.now = omega arith in
     rw all (place_none c.args.body.now, search rules, (λ k h. absurd (omega arith)), omega arith, (faultless_lawful c.args.body.now c.requires.faultless).sparse)
 
-pub overflow-cast-at : goal.overflow-cast-at
-overflow-cast-at c = let w = within c.args.body.now c.loop-state.state c.loop-state.at c.requires.faultless (omega arith) c.loop-state.invariant.0 in search rules
+pub overflow_cast-at : goal.overflow_cast-at
+overflow_cast-at c = let w = within c.args.body.now c.loop-state.state c.loop-state.at c.requires.faultless (omega arith) c.loop-state.invariant.0 in search rules
 
-pub overflow-add-at-in-loop-state : goal.overflow-add-at-in-loop-state
-overflow-add-at-in-loop-state c = let w = within c.args.body.now c.loop-state.state c.loop-state.at c.requires.faultless (omega arith) c.loop-state.invariant.0 in search rules
+pub overflow_add-at-in-loop-state : goal.overflow_add-at-in-loop-state
+overflow_add-at-in-loop-state c = let w = within c.args.body.now c.loop-state.state c.loop-state.at c.requires.faultless (omega arith) c.loop-state.invariant.0 in search rules
 
 pub get-count-requires : goal.get-count-requires
 get-count-requires c =
     let w = within c.args.body.now c.loop-state.state c.loop-state.at c.requires.faultless (omega arith) c.loop-state.invariant.0 in
     record { narrow = omega arith; within = omega arith; near = omega arith }
 
-pub overflow-add-at-in-loop-state-4 : goal.overflow-add-at-in-loop-state-4
-overflow-add-at-in-loop-state-4 c = let w = within c.args.body.now c.loop-state.state c.loop-state.at c.requires.faultless (omega arith) c.loop-state.invariant.0 in search rules
+pub overflow_add-at-in-loop-state-4 : goal.overflow_add-at-in-loop-state-4
+overflow_add-at-in-loop-state-4 c = let w = within c.args.body.now c.loop-state.state c.loop-state.at c.requires.faultless (omega arith) c.loop-state.invariant.0 in search rules
 
 pub loop-state-preserved : goal.loop-state-preserved
 loop-state-preserved c =

@@ -15,25 +15,25 @@ loop-k-init c =
 pub loop-k-preserved : goal.loop-k-preserved
 loop-k-preserved c =
     let t = edges_turn c.args.body.now c.args.states c.args.count c.args.first c.loop-k.k c.loop-k.low
-    (weight_sum (edges_at c.args.body.now c.args.first c.args.count)) c.in-ok-target.target c.in-ok-target.weight
-    (omega arith) c.in-ok-target.ensures.told in
-    let b = c.in-ok-target.ensures.bound in
+    (weight_sum (edges_at c.args.body.now c.args.first c.args.count)) c.in_ok-target.target c.in_ok-target.weight
+    (omega arith) c.in_ok-target.ensures.told in
+    let b = c.in_ok-target.ensures.bound in
     (c.loop-k.invariant.0 ∙ t.0, omega (arith, c.loop-k.invariant.1, t.1), omega (arith, b.1))
 
-pub returns-in-err-target : goal.returns-in-err-target
-returns-in-err-target c =
-    let p = err_from_is_err_and c.from-residual.result c.from-residual.ensures.1 in
+pub returns-in_err-target : goal.returns-in_err-target
+returns-in_err-target c =
+    let p = err_from_is_err_and c.from_residual.result c.from_residual.ensures.1 in
     let at = c.args.first + 26 * c.loop-k.k in
     let stop = edges_stop c.args.body.now c.args.states (c.args.count - c.loop-k.k) at c.loop-k.low
     (weight_sum (edges_at c.args.body.now c.args.first c.args.count))
-    (field c.args.body.now at 10, field c.args.body.now (at + 10) 16) _ (omega arith) c.in-err-target.ensures.told in
+    (field c.args.body.now at 10, field c.args.body.now (at + 10) 16) _ (omega arith) c.in_err-target.ensures.told in
     rw (p.1, p.2) (sym (c.loop-k.invariant.0 ∙ stop))
 
-pub overflow-add-low : goal.overflow-add-low
-overflow-add-low c = let b = c.in-ok-target.ensures.bound in search rules
+pub overflow_add-low : goal.overflow_add-low
+overflow_add-low c = let b = c.in_ok-target.ensures.bound in search rules
 
-pub overflow-add-sum : goal.overflow-add-sum
-overflow-add-sum c = let b = c.in-ok-target.ensures.bound in let i = c.loop-k.invariant.2 in search rules
+pub overflow_add-sum : goal.overflow_add-sum
+overflow_add-sum c = let b = c.in_ok-target.ensures.bound in let i = c.loop-k.invariant.2 in search rules
 
 pub returns : goal.returns
 returns c =

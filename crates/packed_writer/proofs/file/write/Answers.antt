@@ -16,7 +16,7 @@ returns g c =
     let n = c.states.ensures in
     let m = c.edges.ensures in
     let length = (16 + 36 + 27 * c.states.result + 26 * c.edges.result + 7) / 8 in
-    let w = written meaning lawful c.args.buffer.now c.put-header.new.buffer c.put-rows-end.new.buffer c.put.new.bytes c.put-rows-end.result length
-    (omega arith) (omega arith) (omega arith) (λ i l. let t = c.type-inv.buffer i in search rules)
-    c.put-header.ensures c.put-rows-end.ensures.wrote c.put.ensures in
+    let w = written meaning lawful c.args.buffer.now c.put_header.new.buffer c.put_rows-end.new.buffer c.put.new.bytes c.put_rows-end.result length
+    (omega arith) (omega arith) (omega arith) (λ i l. let t = c.type_inv.buffer i in search rules)
+    c.put_header.ensures c.put_rows-end.ensures.wrote c.put.ensures in
     record { written = w; read_back = read_back meaning lawful c.put.new.bytes (drop length c.args.buffer.now) length w.0 w.1 }

@@ -11,15 +11,15 @@ loop-k-init g c = wrote_to c.args.buffer.now c.args.buffer.now c.args.first c.ar
 pub loop-k-preserved : goal.loop-k-preserved
 loop-k-preserved g c =
     let es = (row_of (g.C.Chain.meaning c.args.chain.now) c.args.state).edges in
-    let n = c.edge-count-of-count.ensures.value in
+    let n = c.edge_count_of-count.ensures.value in
     let lt : c.loop-k.k < length es = omega arith in
-    edges_next c.args.buffer.now c.loop-k.buffer c.put-edge.new.buffer c.args.first c.loop-k.k es
-    c.edge-of-target.result lt c.edge-of-target.ensures.value c.loop-k.invariant c.put-edge.ensures
+    edges_next c.args.buffer.now c.loop-k.buffer c.put_edge.new.buffer c.args.first c.loop-k.k es
+    c.edge_of-target.result lt c.edge_of-target.ensures.value c.loop-k.invariant c.put_edge.ensures
 
 pub returns : goal.returns
 returns g c =
     let es = (row_of (g.C.Chain.meaning c.args.chain.now) c.args.state).edges in
-    let n = c.edge-count-of-count.ensures.value in
+    let n = c.edge_count_of-count.ensures.value in
     let e : c.args.first + 26 * c.loop-k.k ≡ c.args.first + 26 * length es = omega arith in
     wrote_to c.args.buffer.now c.loop-k.buffer c.args.first _ _ _ e
     (wrote_all edge_fields c.args.buffer.now c.loop-k.buffer c.args.first _ es c.loop-k.k (omega arith) c.loop-k.invariant)

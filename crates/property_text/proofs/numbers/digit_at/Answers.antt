@@ -10,9 +10,9 @@ returns-then-byte-lt48 c =
 
 pub returns : goal.returns
 returns c =
-    let h : c.args.place < length c.args.text.now = c.byte-at-byte.ensures.inside (omega arith) in (
+    let h : c.args.place < length c.args.text.now = c.byte_at-byte.ensures.inside (omega arith) in (
       h,
       omega arith,
       digit_some c.args.text.now c.args.place h (omega arith) (omega arith)
-          ∙ ap (λ x. (x - 48) ∷ digits (drop (c.args.place + 1) c.args.text.now)) (sym c.byte-at-byte.ensures.value),
+          ∙ ap (λ x. (x - 48) ∷ digits (drop (c.args.place + 1) c.args.text.now)) (sym c.byte_at-byte.ensures.value),
     )

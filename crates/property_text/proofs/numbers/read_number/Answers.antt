@@ -6,10 +6,10 @@ pub loop-digit-preserved : goal.loop-digit-preserved
 loop-digit-preserved c =
     let s = c.args.text.now in
     let i = c.args.at in
-    let d = c.in-Some-digit-at.digit in
+    let d = c.in-Some-digit_at.digit in
     let v = c.loop-digit.value in
     let k = c.loop-digit.end in
-    let h = c.in-Some-digit-at.ensures in
+    let h = c.in-Some-digit_at.ensures in
     let p : (k - i) + 1 ≡ (k + 1) - i = omega arith in
     let b : v * 10 + d < 10 ^ ((k - i) + 1) = more_bound v d (k - i) c.loop-digit.invariant.2 h.1 in (
       turn_length s i k d (omega arith) h.2 c.loop-digit.invariant.0,
@@ -27,6 +27,6 @@ returns c =
     let i = c.args.at in
     let k = c.loop-digit.end in
     let v = c.loop-digit.value in
-    ap (λ x. Ok (v, x)) c.past-spaces.ensures.value
+    ap (λ x. Ok (v, x)) c.past_spaces.ensures.value
     ∙ sym (number_end s i k c.in-Some.first v c.loop-digit.invariant.3 c.loop-digit.invariant.5
-    c.in-Some.ensures.2 c.in-default-digit-at.ensures c.loop-digit.invariant.0 c.loop-digit.invariant.1 c.loop-digit.invariant.6)
+    c.in-Some.ensures.2 c.in_default-digit_at.ensures c.loop-digit.invariant.0 c.loop-digit.invariant.1 c.loop-digit.invariant.6)

@@ -6,16 +6,16 @@ use Rattle.table_chain.proofs.questions.first_edges.Goals as goal
 pub loop-state-init : goal.loop-state-init
 loop-state-init c = (first_none c.args.tables.now.rows.now, search rules, (λ k h. absurd (omega arith)))
 
-pub overflow-cast-firsts : goal.overflow-cast-firsts
-overflow-cast-firsts c =
+pub overflow_cast-firsts : goal.overflow_cast-firsts
+overflow_cast-firsts c =
     let t = c.args.tables.now in
     let w = within t.rows.now t.edges.now t.start t.denominator c.requires.faultless c.loop-state.state (omega arith) in
     let s = short t.rows.now t.edges.now t.start t.denominator c.requires.faultless in
     let i = c.loop-state.invariant.0 in
     search rules
 
-pub overflow-add-at : goal.overflow-add-at
-overflow-add-at c =
+pub overflow_add-at : goal.overflow_add-at
+overflow_add-at c =
     let t = c.args.tables.now in
     let w = within t.rows.now t.edges.now t.start t.denominator c.requires.faultless c.loop-state.state (omega arith) in
     let s = short t.rows.now t.edges.now t.start t.denominator c.requires.faultless in

@@ -16,15 +16,15 @@ loop-state-preserved c =
     let rs = c.args.tables.now.rows.now in
     let left : length rs - (c.loop-state.state + 1) ≡ length rs - c.loop-state.state - 1 = omega arith in
     let turn = rows_turn rs c.args.tables.now.edges.now (length rs) c.args.tables.now.denominator (length rs - c.loop-state.state) c.loop-state.state c.loop-state.before
-    (row_at rs c.loop-state.state) (tt {0}) (tt {0}) (tt {0}) (omega arith) refl c.in-ok-check-row.ensures.told in
-    (rw left (c.loop-state.invariant.0 ∙ turn), c.in-ok-check-row.ensures.bound)
+    (row_at rs c.loop-state.state) (tt {0}) (tt {0}) (tt {0}) (omega arith) refl c.in_ok-check_row.ensures.told in
+    (rw left (c.loop-state.invariant.0 ∙ turn), c.in_ok-check_row.ensures.bound)
 
-pub returns-in-err-check-row : goal.returns-in-err-check-row
-returns-in-err-check-row c =
-    let p = err_from_is_err_and c.from-residual.result c.from-residual.ensures.1 in
+pub returns-in_err-check_row : goal.returns-in_err-check_row
+returns-in_err-check_row c =
+    let p = err_from_is_err_and c.from_residual.result c.from_residual.ensures.1 in
     let rs = c.args.tables.now.rows.now in
     let stop = rows_stop rs c.args.tables.now.edges.now (length rs) c.args.tables.now.denominator (length rs - c.loop-state.state) c.loop-state.state c.loop-state.before
-    (row_at rs c.loop-state.state) (tt {0}) (tt {0}) _ (omega arith) refl c.in-err-check-row.ensures.told in
+    (row_at rs c.loop-state.state) (tt {0}) (tt {0}) _ (omega arith) refl c.in_err-check_row.ensures.told in
     rw (p.1, p.2) (sym (c.loop-state.invariant.0 ∙ stop))
 
 pub returns-then-tables-before : goal.returns-then-tables-before

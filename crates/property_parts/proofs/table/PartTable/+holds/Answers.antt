@@ -6,8 +6,8 @@ use Rattle.property_parts.proofs.Values.{truth_local}
 use Rattle.property_parts.specs.Parts.{truth_rule}
 use Rattle.property_parts.proofs.table.PartTable.+holds.Goals as goal
 
-pub overflow-shr-result : goal.overflow-shr-result
-overflow-shr-result t c = ltb-true _ _ (names_at _ _ _ _ c.args.self.now.falls c.requires c.in-Letter.is)
+pub overflow_shr-result : goal.overflow_shr-result
+overflow_shr-result t c = ltb-true _ _ (names_at _ _ _ _ c.args.self.now.falls c.requires c.in-Letter.is)
 
 pub holds-requires : goal.holds-requires
 holds-requires t c =
@@ -17,16 +17,16 @@ pub holds-requires-in-And : goal.holds-requires-in-And
 holds-requires-in-And t c =
     let h = both_earlier c.in-And.a c.in-And.b c.args.number (names_at _ _ _ _ c.args.self.now.falls c.requires c.in-And.is) in omega arith
 
-pub holds-requires-then-init : goal.holds-requires-then-init
-holds-requires-then-init t c =
+pub holds-requires-then-holds : goal.holds-requires-then-holds
+holds-requires-then-holds t c =
     let h = both_earlier c.in-And.a c.in-And.b c.args.number (names_at _ _ _ _ c.args.self.now.falls c.requires c.in-And.is) in omega arith
 
 pub holds-requires-in-Or : goal.holds-requires-in-Or
 holds-requires-in-Or t c =
     let h = both_earlier c.in-Or.a c.in-Or.b c.args.number (names_at _ _ _ _ c.args.self.now.falls c.requires c.in-Or.is) in omega arith
 
-pub holds-requires-else-init-2 : goal.holds-requires-else-init-2
-holds-requires-else-init-2 t c =
+pub holds-requires-else-holds-2 : goal.holds-requires-else-holds-2
+holds-requires-else-holds-2 t c =
     let h = both_earlier c.in-Or.a c.in-Or.b c.args.number (names_at _ _ _ _ c.args.self.now.falls c.requires c.in-Or.is) in omega arith
 
 pub returns-in-Letter : goal.returns-in-Letter

@@ -2,8 +2,8 @@ use Rattle.std.proofs.Common.{refl, add-one, arith, take-suc-set, rules}
 use Rattle.property_parts.proofs.Filled.{fills}
 use Rattle.property_parts.proofs.table.PartTable.fill.Goals as goal
 
-pub invariant-of-self : goal.invariant-of-self
-invariant-of-self c = search (rules, fills)
+pub invariant_of-self : goal.invariant_of-self
+invariant_of-self c = search (rules, fills)
 
 pub returns : goal.returns
 returns c =

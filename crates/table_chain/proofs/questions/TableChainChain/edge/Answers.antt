@@ -10,16 +10,16 @@ pub returns-then-place-self : goal.returns-then-place-self
 returns-then-place-self c = let t = c.args.self.now in edge_past t.rows.now t.edges.now t.start t.denominator t.faultless c.args.state c.args.place
     c.if-state-self.false c.if-place-self.true
 
-pub overflow-add-edge : goal.overflow-add-edge
-overflow-add-edge c =
+pub overflow_add-edge : goal.overflow_add-edge
+overflow_add-edge c =
     let t = c.args.self.now in
     let w = within t.rows.now t.edges.now t.start t.denominator t.faultless c.args.state c.if-state-self.false in
     let s = short t.rows.now t.edges.now t.start t.denominator t.faultless in
     let i = t.placed c.args.state c.if-state-self.false in
     search rules
 
-pub offset-bounds-self-self : goal.offset-bounds-self-self
-offset-bounds-self-self c =
+pub offset_bounds-self-self : goal.offset_bounds-self-self
+offset_bounds-self-self c =
     let t = c.args.self.now in
     let w = within t.rows.now t.edges.now t.start t.denominator t.faultless c.args.state c.if-state-self.false in
     let s = short t.rows.now t.edges.now t.start t.denominator t.faultless in
