@@ -63,34 +63,34 @@ read_factor-returns-in_err-number-in-40 t c =
     let p = err_from_is_err_and c.from_residual.result c.from_residual.ensures.1 in
     rw (p.1, p.2) (record {
       later = tt;
-      read = inside_bad s most_parts c.args.parts.now.count c.args.at c.args.deeper _ e c.if-deeper-eq0.false c.past_spaces-in-40.ensures.value c.in_err-number.ensures.read;
+      read = inside_bad s most_parts c.args.parts.now.count c.args.at c.args.deeper _ e c.if-deeper-eq0.false c.past_spaces-in-40.ensures.value c.in_err-number-in-40.ensures.read;
     })
 
 pub read_factor-returns-in_err-next-in-40 : goal.read_factor-returns-in_err-next-in-40
 read_factor-returns-in_err-next-in-40 t c =
     let s = c.args.text.now in
     let e : get_or s c.args.at 0 ≡ 40 = omega arith in
-    let m = c.in_ok-number.ensures.read in
-    let p = err_from_is_err_and c.from_residual-in_err-next.result c.from_residual-in_err-next.ensures.1 in
+    let m = c.in_ok-number-in-40.ensures.read in
+    let p = err_from_is_err_and c.from_residual-in_err-next-in-40.result c.from_residual-in_err-next-in-40.ensures.1 in
     rw (p.1, p.2) (record {
       later = tt;
       read = inside_unclosed s most_parts c.args.parts.now.count c.args.at c.args.deeper _ e c.if-deeper-eq0.false c.past_spaces-in-40.ensures.value
-          m.formula c.in_ok-number.end m.read (sym c.in_err-next.ensures.value);
+          m.formula c.in_ok-number-in-40.end m.read (sym c.in_err-next-in-40.ensures.value);
     })
 
 pub read_factor-returns-in_ok-next-in-40 : goal.read_factor-returns-in_ok-next-in-40
 read_factor-returns-in_ok-next-in-40 t c =
     let s = c.args.text.now in
     let e : get_or s c.args.at 0 ≡ 40 = omega arith in
-    let m = c.in_ok-number.ensures.read in
-    let l = c.in_ok-number.ensures.later in
-    let k = c.in_ok-next.ensures.later in
+    let m = c.in_ok-number-in-40.ensures.read in
+    let l = c.in_ok-number-in-40.ensures.later in
+    let k = c.in_ok-next-in-40.ensures.later in
     record {
       later = omega arith;
       read = record {
         formula = m.formula;
         read = inside_closed s most_parts c.args.parts.now.count c.args.at c.args.deeper _ e c.if-deeper-eq0.false c.past_spaces-in-40.ensures.value
-            m.formula c.in_ok-number.end c.in_ok-next.next m.read (sym c.in_ok-next.ensures.value);
+            m.formula c.in_ok-number-in-40.end c.in_ok-next-in-40.next m.read (sym c.in_ok-next-in-40.ensures.value);
         own = m.own;
         count = m.count;
         parts = m.parts;
