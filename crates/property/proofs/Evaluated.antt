@@ -7,25 +7,25 @@ use Rattle.property_parts.proofs.Values.{length_parts, first_made, second_made, 
 use Rattle.property.specs.Asked.{Asked, InParts, in_parts}
 
 -- how many parts a property has
-pub count_parts : (a : Asked) → length (in_parts a).parts ≡ size a.ground + size a.goal
+pub count_parts : (a : Asked) → length (in_parts a).parts ≡ size a.ground_formula + size a.goal_formula
 count_parts a =
-    let x = length_parts 0 a.ground in
-    let y = length_parts (size a.ground) a.goal in
+    let x = length_parts 0 a.ground_formula in
+    let y = length_parts (size a.ground_formula) a.goal_formula in
     simp length-append (omega arith)
 
 module _ (p : InParts) (m w : ℕ) (falls : Falls p.parts m) (count : length p.parts ≡ m) (a : Asked) (is : p ≡ in_parts a) where
-  parts_are : p.parts ≡ parts_of 0 a.ground ++ parts_of (size a.ground) a.goal
+  parts_are : p.parts ≡ parts_of 0 a.ground_formula ++ parts_of (size a.ground_formula) a.goal_formula
   parts_are = ap (λ q. q.parts) is
 
-  enough : size a.ground + size a.goal ≤ m
+  enough : size a.ground_formula + size a.goal_formula ≤ m
   enough = let x = ap (λ q. length q.parts) is in let y = count_parts a in omega arith
 
-  pub ground_true : truth p.parts w p.ground ≡ holds_in a.ground w
+  pub ground_true : truth p.parts w p.ground_part ≡ holds_in a.ground_formula w
   ground_true =
-      ap (λ q. truth p.parts w q.ground) is
-      ∙ first_made false (truth_rule w) (truth_local w) (λ f. holds_in f w) (truth_follows w) p.parts m falls a.ground a.goal enough parts_are
+      ap (λ q. truth p.parts w q.ground_part) is
+      ∙ first_made false (truth_rule w) (truth_local w) (λ f. holds_in f w) (truth_follows w) p.parts m falls a.ground_formula a.goal_formula enough parts_are
 
-  pub goal_true : truth p.parts w p.goal ≡ holds_in a.goal w
+  pub goal_true : truth p.parts w p.goal_part ≡ holds_in a.goal_formula w
   goal_true =
-      ap (λ q. truth p.parts w q.goal) is
-      ∙ second_made false (truth_rule w) (truth_local w) (λ f. holds_in f w) (truth_follows w) p.parts m falls a.ground a.goal enough parts_are
+      ap (λ q. truth p.parts w q.goal_part) is
+      ∙ second_made false (truth_rule w) (truth_local w) (λ f. holds_in f w) (truth_follows w) p.parts m falls a.ground_formula a.goal_formula enough parts_are

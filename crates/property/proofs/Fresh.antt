@@ -11,7 +11,7 @@ use Rattle.property.specs.Asked.{InParts}
 use Rattle.property.specs.Reading.{read, answer}
 
 abbrev pub fresh : InParts
-fresh = record { ceiling = record { upper = 0; lower = 1 }; ground = 0; hops = 0; goal = 1; parts = False ∷ False ∷ [] }
+fresh = record { ceiling = record { upper = 0; lower = 1 }; ground_part = 0; hops = 0; goal_part = 1; parts = False ∷ False ∷ [] }
 
 pub fresh_read : answer (codes "P<=0/1[F U<=0 F]") ≡ Ok fresh
 unfolding read past blanks digits worth more nested
@@ -26,7 +26,7 @@ filled (Some n) before after p h c = c
 pub fresh_filled : (r₁ r₂ : Option ℕ) (start mid after : PartTable) (ground goal : ℕ) → start.count ≡ 0
     → MatchOption r₁ ((start.count ≡ most_parts) × (mid ≡ start)) (λ n. Filled start False mid n) → ground ≡ unwrap_or r₁ 0
     → MatchOption r₂ ((mid.count ≡ most_parts) × (after ≡ mid)) (λ n. Filled mid False after n) → goal ≡ unwrap_or r₂ 0
-    → answer (codes "P<=0/1[F U<=0 F]") ≡ Ok (record { ceiling = record { upper = 0; lower = 1 }; ground = ground; hops = 0; goal = goal; parts = held after })
+    → answer (codes "P<=0/1[F U<=0 F]") ≡ Ok (record { ceiling = record { upper = 0; lower = 1 }; ground_part = ground; hops = 0; goal_part = goal; parts = held after })
 fresh_filled r₁ r₂ start mid after ground goal empty c₁ e₁ c₂ e₂ =
     let f = filled r₁ start mid False (omega arith) c₁ in
     let few : mid.count < most_parts = omega (arith, f.count, f.own) in

@@ -82,7 +82,7 @@ module _ {seen : ℕ} {s t : List ℕ} (alike : Alike seen s t) where
       law_then _ _ (law_until b.1 w₂) (λ c e₃ w₃.
       law_then _ _ (law_state alike most_parts most_open (size b.0) c.1 w₃) (λ d e₄ w₄.
       law_then _ _ (law_closing d.1 w₄) (λ x e₅ w₅.
-      law_ok (λ x. length s) (record { ceiling = a.0; ground = b.0; hops = c.0; goal = d.0 }) w₅)))))
+      law_ok (λ x. length s) (record { ceiling = a.0; ground_formula = b.0; hops = c.0; goal_formula = d.0 }) w₅)))))
 
 -- a text that is not too long
 within : (s : List ℕ) (r : Refusal PropertyFault) → read s ≡ Err r → ltb most_bytes (length s) ≡ false → whole s (past s 0) ≡ Err r

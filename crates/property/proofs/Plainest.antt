@@ -35,8 +35,8 @@ plainest_short a l =
       length_five a.ceiling.upper (omega arith),
       length_five a.ceiling.lower (omega arith),
       length_five a.hops (omega arith),
-      length_plain a.ground State,
-      length_plain a.goal State,
+      length_plain a.ground_formula State,
+      length_plain a.goal_formula State,
     ))
 
 -- tokens that no space follows
@@ -56,9 +56,9 @@ standing s t a w same o =
     let near = l.near in
     let upper = decimal a.ceiling.upper in
     let lower = decimal a.ceiling.lower in
-    let ground = plain a.ground State in
+    let ground = plain a.ground_formula State in
     let hops = decimal a.hops in
-    let goal = plain a.goal State in
+    let goal = plain a.goal_formula State in
     let u = stands_both t upper _ 3 o.1.1.1 in
     let p₃ : ℕ = 3 + length upper in
     let p₄ : ℕ = p₃ + 1 in
@@ -81,7 +81,7 @@ standing s t a w same o =
     (no_space t p₅ (λ z. omega (arith, v.1.0))) in
     let is_hops : Number t p₉ a.hops p₁₀ =
     number_stands t p₉ a.hops p₁₀ (omega arith) h.0 (λ d z. omega (arith, z.small, z.stands, h.1.0))
-    (one_space t (p₉ + length hops) h.1.0 (begins_solid t a.goal State p₁₀ f.0)) in
+    (one_space t (p₉ + length hops) h.1.0 (begins_solid t a.goal_formula State p₁₀ f.0)) in
     let end : p₁₁ + 1 ≡ length t = let q : length (plainest a) ≡ p₁₁ + 1 = simp length-append (omega arith) in sym (same ∙ q) in
     record {
       p₀ = 0;
@@ -104,7 +104,7 @@ standing s t a w same o =
       is_upper = is_upper;
       is_line = tight_byte t 47 p₃ u.1.0 (number_solid t is_lower);
       is_lower = is_lower;
-      is_open = tight_byte t 91 p₅ v.1.0 (begins_solid t a.ground State p₆ g.0);
+      is_open = tight_byte t 91 p₅ v.1.0 (begins_solid t a.ground_formula State p₆ g.0);
       is_ground = plain_spelled t w.is_ground p₆ p₇ g.0 (one_space t (p₆ + length ground) g.1.0 (λ z. omega (arith, g.1.1.0)));
       is_until = tight_byte t 85 p₇ g.1.1.0 (λ z. omega (arith, g.1.1.1.0));
       is_within = tight_at_most t p₈ p₉ (omega arith) g.1.1.1.0 g.1.1.1.1.0 (number_solid t is_hops);
@@ -118,11 +118,11 @@ standing s t a w same o =
 pub plainest_spelled : (s : List ℕ) (a : Asked) → Spelled s a → Spelled (plainest a) a
 plainest_spelled s a w = standing s (plainest a) a w refl (stands_whole (plainest a))
 
-pub written_is : (a : Asked) → Falls (in_parts a).parts (size a.ground + size a.goal) → written (in_parts a) ≡ plainest a
+pub written_is : (a : Asked) → Falls (in_parts a).parts (size a.ground_formula + size a.goal_formula) → written (in_parts a) ≡ plainest a
 written_is a falls =
-    let m = size a.ground + size a.goal in
-    let x = first_made (λ kind. []) form_rule form_local plain form_follows (in_parts a).parts m falls a.ground a.goal (omega arith) refl in
-    let y = second_made (λ kind. []) form_rule form_local plain form_follows (in_parts a).parts m falls a.ground a.goal (omega arith) refl in
+    let m = size a.ground_formula + size a.goal_formula in
+    let x = first_made (λ kind. []) form_rule form_local plain form_follows (in_parts a).parts m falls a.ground_formula a.goal_formula (omega arith) refl in
+    let y = second_made (λ kind. []) form_rule form_local plain form_follows (in_parts a).parts m falls a.ground_formula a.goal_formula (omega arith) refl in
     ap₂ (λ f g. written_with a.ceiling (f State) a.hops (g State)) x y
 
 -- a property that was read is written as a text that spells the same
@@ -131,7 +131,7 @@ module _ (t : PartTable) (p : InParts) (parts : p.parts ≡ held t) (a : Asked) 
   written_plainest =
       let e : held t ≡ (in_parts a).parts = sym parts ∙ ap (λ q. q.parts) is in
       let x : length (held t) ≡ t.count = length-take-le t.count t.parts (omega (arith, t.whole, t.few)) in
-      let count : t.count ≡ size a.ground + size a.goal = sym x ∙ (ap length e ∙ count_parts a) in
+      let count : t.count ≡ size a.ground_formula + size a.goal_formula = sym x ∙ (ap length e ∙ count_parts a) in
       ap written is ∙ written_is a (subst₂ Falls e count (held_falls t.parts t.count t.falls))
 
   pub written_spelled : (s : List ℕ) → Spelled s a → Spelled (written p) a

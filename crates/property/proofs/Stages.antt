@@ -79,13 +79,13 @@ module _ (s : List ℕ) (short : length s ≤ most_bytes) (i : ℕ) (begin : i �
           closing_bad {r} h = refuses s r (read_short s short ∙ rw (o, h₁, h₂, h₃, h) refl)
 
           abbrev asked : Asked
-          asked = record { ceiling = c; ground = m₁.formula; hops = hops; goal = m₂.formula }
+          asked = record { ceiling = c; ground_formula = m₁.formula; hops = hops; goal_formula = m₂.formula }
 
-          pub all_read : closing s e ≡ Ok tt → Accepts s (record { ceiling = c; ground = ground; hops = hops; goal = goal; parts = held after })
+          pub all_read : closing s e ≡ Ok tt → Accepts s (record { ceiling = c; ground_part = ground; hops = hops; goal_part = goal; parts = held after })
           all_read h₄ =
               let eg : ground ≡ root m₁.formula = omega (arith, m₁.own) in
               let et : goal ≡ size m₁.formula + root m₂.formula = omega (arith, m₂.own, filled) in
               let ep : held after ≡ parts_of 0 m₁.formula ++ parts_of (size m₁.formula) m₂.formula =
               m₂.parts ∙ ap₂ (λ x n. x ++ parts_of n m₂.formula) (m₁.parts ∙ ap₂ (λ x n. x ++ parts_of n m₁.formula) none_held empty) filled in
-              accepts s after (record { ceiling = c; ground = ground; hops = hops; goal = goal; parts = held after }) asked refl
+              accepts s after (record { ceiling = c; ground_part = ground; hops = hops; goal_part = goal; parts = held after }) asked refl
               (read_short s short ∙ rw (o, h₁, h₂, h₃, h₄) refl) (rw (eg, et, ep) refl)

@@ -169,12 +169,12 @@ module _ (s : List ℕ) where
         lower_is a.ceiling.upper _ _ _ k.is_lower l.some l.small l.fraction,
         byte_is s 91 _ _ k.is_open,
       ) refl in
-      let h₁ : state s most_parts most_open 0 k.p₆ ≡ Ok (a.ground, k.p₇) =
-      state_spelled s most_parts most_open 0 _ _ a.ground k.is_ground (λ e. absurd (omega (arith, e, k.is_until.stands))) (λ e. absurd (omega (arith, e, k.is_until.stands))) (omega arith) in
+      let h₁ : state s most_parts most_open 0 k.p₆ ≡ Ok (a.ground_formula, k.p₇) =
+      state_spelled s most_parts most_open 0 _ _ a.ground_formula k.is_ground (λ e. absurd (omega (arith, e, k.is_until.stands))) (λ e. absurd (omega (arith, e, k.is_until.stands))) (omega arith) in
       let h₂ : until s k.p₇ ≡ Ok (a.hops, k.p₁₀) =
       rw (byte_is s 85 _ _ k.is_until, at_most_is s _ _ k.is_within, number_is s _ _ _ k.is_hops, le-leb a.hops most_hops l.near) refl in
-      let h₃ : state s most_parts most_open (size a.ground) k.p₁₀ ≡ Ok (a.goal, k.p₁₁) =
-      state_spelled s most_parts most_open (size a.ground) _ _ a.goal k.is_goal (λ e. absurd (omega (arith, e, k.is_closed.stands))) (λ e. absurd (omega (arith, e, k.is_closed.stands))) few in
+      let h₃ : state s most_parts most_open (size a.ground_formula) k.p₁₀ ≡ Ok (a.goal_formula, k.p₁₁) =
+      state_spelled s most_parts most_open (size a.ground_formula) _ _ a.goal_formula k.is_goal (λ e. absurd (omega (arith, e, k.is_closed.stands))) (λ e. absurd (omega (arith, e, k.is_closed.stands))) few in
       let h₄ : closing s k.p₁₁ ≡ Ok tt = rw (byte_is s 93 _ _ k.is_closed, ended) refl in
       read_short s k.short ∙ (ap (λ i. whole s i) begins ∙ rw (h₀, h₁, h₂, h₃, h₄) refl)
 

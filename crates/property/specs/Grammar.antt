@@ -14,7 +14,7 @@ pub record Limited (a : Asked) : Type 0 where
   pub small : a.ceiling.lower ≤ most_lower
   pub fraction : a.ceiling.upper ≤ a.ceiling.lower
   pub near : a.hops ≤ most_hops
-  pub few : size a.ground + size a.goal ≤ most_parts
+  pub few : size a.ground_formula + size a.goal_formula ≤ most_parts
 
 -- the text is P <= upper / lower [ ground U <= hops goal ], and nothing else; p₀ to p₁₁ are the places of its tokens and of its formulas
 pub record Spelled (s : List ℕ) (a : Asked) : Type 0 where
@@ -39,9 +39,9 @@ pub record Spelled (s : List ℕ) (a : Asked) : Type 0 where
   pub is_line : Byte s 47 p₃ p₄
   pub is_lower : Number s p₄ a.ceiling.lower p₅
   pub is_open : Byte s 91 p₅ p₆
-  pub is_ground : Spells s State most_open p₆ p₇ a.ground
+  pub is_ground : Spells s State most_open p₆ p₇ a.ground_formula
   pub is_until : Byte s 85 p₇ p₈
   pub is_within : AtMost s p₈ p₉
   pub is_hops : Number s p₉ a.hops p₁₀
-  pub is_goal : Spells s State most_open p₁₀ p₁₁ a.goal
+  pub is_goal : Spells s State most_open p₁₀ p₁₁ a.goal_formula
   pub is_closed : Byte s 93 p₁₁ (length s)

@@ -45,11 +45,11 @@ module _ (s : List ℕ) where
   abbrev pub whole : ℕ → Read Asked
   whole i = do
     front ← opening i
-    ground ← state s most_parts most_open 0 front.1
-    bound ← until ground.1
-    goal ← state s most_parts most_open (size ground.0) bound.1
-    end ← closing goal.1
-    Ok (record { ceiling = front.0; ground = ground.0; hops = bound.0; goal = goal.0 })
+    left ← state s most_parts most_open 0 front.1
+    bound ← until left.1
+    right ← state s most_parts most_open (size left.0) bound.1
+    end ← closing right.1
+    Ok (record { ceiling = front.0; ground_formula = left.0; hops = bound.0; goal_formula = right.0 })
 
 unfoldable pub read : List ℕ → Read Asked
 read s = cond (nat_lt most_bytes (length s)) (refused TextTooLong most_bytes) (whole s (past s 0))

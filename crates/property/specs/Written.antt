@@ -7,12 +7,12 @@ use Rattle.property.specs.declared.ceiling.Ceiling.{Ceiling}
 
 -- given the bytes of the ground and of the goal
 abbrev pub written_with : Ceiling → List ℕ → ℕ → List ℕ → List ℕ
-written_with ceiling ground hops goal =
+written_with ceiling ground_bytes hops goal_bytes =
     codes "P<=" ++ (decimal ceiling.upper ++ (codes "/" ++ (decimal ceiling.lower
-    ++ (codes "[" ++ (ground ++ (codes " U<=" ++ (decimal hops ++ (codes " " ++ (goal ++ codes "]")))))))))
+    ++ (codes "[" ++ (ground_bytes ++ (codes " U<=" ++ (decimal hops ++ (codes " " ++ (goal_bytes ++ codes "]")))))))))
 
 abbrev pub written : InParts → List ℕ
-written p = written_with p.ceiling (form p.parts p.ground State) p.hops (form p.parts p.goal State)
+written p = written_with p.ceiling (form p.parts p.ground_part State) p.hops (form p.parts p.goal_part State)
 
 abbrev pub plainest : Asked → List ℕ
-plainest a = written_with a.ceiling (plain a.ground State) a.hops (plain a.goal State)
+plainest a = written_with a.ceiling (plain a.ground_formula State) a.hops (plain a.goal_formula State)

@@ -11,13 +11,13 @@ use property_parts::PartTable;
 pub struct Property {
     pub(crate) ceiling: Ceiling,
     pub(crate) hop_bound: u32,
-    pub(crate) ground: u8,
-    pub(crate) goal: u8,
+    pub(crate) ground_part: u8,
+    pub(crate) goal_part: u8,
     pub(crate) parts: PartTable,
     ghost some: { 1 ≤ ceiling.lower },
     ghost small: { ceiling.lower ≤ most_lower },
     ghost fraction: { ceiling.upper ≤ ceiling.lower },
     ghost near: { hop_bound ≤ most_hops },
-    ghost grounded: { ground < parts.count },
-    ghost aimed: { goal < parts.count },
+    ghost grounded: { ground_part < parts.count },
+    ghost aimed: { goal_part < parts.count },
 }

@@ -21,8 +21,8 @@ impl Property {
         Property {
             ceiling: Ceiling { upper: 0, lower: 1 },
             hop_bound: 0,
-            ground,
-            goal,
+            ground_part: ground,
+            goal_part: goal,
             parts,
         }
     }
@@ -48,17 +48,17 @@ impl Property {
 
     /// Whether a state with these propositions is in the ground; a is bit 0.
     pub fn ground_holds(&self, propositions: u16) -> bool
-        ensures value { result ≡ truth (meaning self.now).parts propositions (meaning self.now).ground }
-        ensures formula { (a : Asked) → meaning self.now ≡ in_parts a → result ≡ holds_in a.ground propositions }
+        ensures value { result ≡ truth (meaning self.now).parts propositions (meaning self.now).ground_part }
+        ensures formula { (a : Asked) → meaning self.now ≡ in_parts a → result ≡ holds_in a.ground_formula propositions }
     {
-        self.parts.holds(self.ground as usize, propositions)
+        self.parts.holds(self.ground_part as usize, propositions)
     }
 
     /// Whether a state with these propositions is in the goal; a is bit 0.
     pub fn goal_holds(&self, propositions: u16) -> bool
-        ensures value { result ≡ truth (meaning self.now).parts propositions (meaning self.now).goal }
-        ensures formula { (a : Asked) → meaning self.now ≡ in_parts a → result ≡ holds_in a.goal propositions }
+        ensures value { result ≡ truth (meaning self.now).parts propositions (meaning self.now).goal_part }
+        ensures formula { (a : Asked) → meaning self.now ≡ in_parts a → result ≡ holds_in a.goal_formula propositions }
     {
-        self.parts.holds(self.goal as usize, propositions)
+        self.parts.holds(self.goal_part as usize, propositions)
     }
 }

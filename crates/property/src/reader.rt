@@ -90,8 +90,8 @@ impl Property {
         Ok(Property {
             ceiling,
             hop_bound,
-            ground,
-            goal,
+            ground_part: ground,
+            goal_part: goal,
             parts,
         })
     }
