@@ -8,24 +8,22 @@ mod property;
 mod show;
 
 use crate::command::{Outcome, obey};
+use std::process::ExitCode;
 use std::{env, io};
-
-/// A command was refused, or could not be carried out; what was wrong has been told.
-#[derive(Drop)]
-struct Failed;
 
 fn run(rt: &HostRuntime) -> io::Result<Outcome> {
     let words: Vec<String> = env::args(rt)?.skip(1).collect(rt.alloc())?;
     obey(rt, words.as_slice())
 }
 
-fn main(rt: HostRuntime) -> Result<(), Failed> {
+/// Fails where a command was refused or could not be carried out; what was wrong has been told.
+fn main(rt: HostRuntime) -> ExitCode {
     match run(&rt) {
-        Ok(Outcome::Done) => Ok(()),
-        Ok(Outcome::Refused) => Err(Failed),
+        Ok(Outcome::Done) => ExitCode::SUCCESS,
+        Ok(Outcome::Refused) => ExitCode::FAILURE,
         Err(e) => {
             let _ = eprintln!(rt; "lister: {e}");
-            Err(Failed)
+            ExitCode::FAILURE
         }
     }
 }

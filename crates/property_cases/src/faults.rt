@@ -3,12 +3,13 @@ use crate::texts::{Text, made};
 use property::PropertyFault::*;
 use property::{Property, PropertyFault};
 use refusal::Refusal;
-use std::test::Fail;
+use std::alloc::{AllocError, Global};
+use std::process::Abort;
 
 /// A text, and the fault, its number and its place.
 type Case = (Text, PropertyFault, u32, usize);
 
-const CASES: [Case; 77] = [
+const LENGTHS: [Case; 5] = [
     (Text("", " ", 1_025, ""), TextTooLong, 11, 1024),
     (
         Text("P<=1/2[aU<=1b]", " ", 1_011, ""),
@@ -24,61 +25,71 @@ const CASES: [Case; 77] = [
         12,
         1023,
     ),
-    (Text("", "", 0, ""), TokenMissing, 12, 0),
-    (Text("p<=1/2", "", 0, ""), TokenMissing, 12, 0),
-    (Text("  <=1/2", "", 0, ""), TokenMissing, 12, 2),
-    (Text("P", "", 0, ""), TokenMissing, 12, 1),
-    (Text("P< =1/2", "", 0, ""), TokenMissing, 12, 1),
-    (Text("P<1/2", "", 0, ""), TokenMissing, 12, 1),
-    (Text("P\t<=1/2", "", 0, ""), TokenMissing, 12, 1),
-    (Text("P<=", "", 0, ""), TokenMissing, 12, 3),
-    (Text("P<=-1/2", "", 0, ""), TokenMissing, 12, 3),
-    (Text("P<=1", "", 0, ""), TokenMissing, 12, 4),
-    (Text("P<=1 2", "", 0, ""), TokenMissing, 12, 5),
-    (Text("P<=1/", "", 0, ""), TokenMissing, 12, 5),
-    (Text("P<=1/2", "", 0, ""), TokenMissing, 12, 6),
-    (Text("P<=1/2  (", "", 0, ""), TokenMissing, 12, 8),
-    (Text("P<=1/2[", "", 0, ""), TokenMissing, 12, 7),
-    (Text("P<=1/2[q", "", 0, ""), TokenMissing, 12, 7),
-    (Text("P<=1/2[A", "", 0, ""), TokenMissing, 12, 7),
-    (Text("P<=1/2[)", "", 0, ""), TokenMissing, 12, 7),
-    (Text("P<=1/2[!T", "", 0, ""), TokenMissing, 12, 8),
-    (Text("P<=1/2[!!a", "", 0, ""), TokenMissing, 12, 8),
-    (Text("P<=1/2[!", "", 0, ""), TokenMissing, 12, 8),
-    (Text("P<=1/2[a", "", 0, ""), TokenMissing, 12, 8),
-    (Text("P<=1/2[a b", "", 0, ""), TokenMissing, 12, 9),
-    (Text("P<=1/2[a&  |", "", 0, ""), TokenMissing, 12, 11),
-    (Text("P<=1/2[a|", "", 0, ""), TokenMissing, 12, 9),
-    (Text("P<=1/2[(a U", "", 0, ""), TokenMissing, 12, 10),
-    (Text("P<=1/2[a)", "", 0, ""), TokenMissing, 12, 8),
-    (Text("P<=1/2[aU", "", 0, ""), TokenMissing, 12, 9),
-    (Text("P<=1/2[aU<=", "", 0, ""), TokenMissing, 12, 11),
-    (Text("P<=1/2[aU<=1", "", 0, ""), TokenMissing, 12, 12),
-    (Text("P<=1/2[aU<=1b", "", 0, ""), TokenMissing, 12, 13),
-    (Text("P<=1/2[aU<=1b)", "", 0, ""), TokenMissing, 12, 13),
-    (Text("P<=1/2[aU<=1b]]", "", 0, ""), TokenMissing, 12, 14),
-    (Text("P<=1/2[aU<=1b] ]", "", 0, ""), TokenMissing, 12, 15),
-    (Text("P<=00/1", "", 0, ""), BadNumber, 13, 3),
-    (Text("P<=01/2", "", 0, ""), BadNumber, 13, 3),
-    (Text("P<=100000/1", "", 0, ""), BadNumber, 13, 3),
-    (Text("P<=1/02", "", 0, ""), BadNumber, 13, 5),
-    (Text("P<=1/000000", "", 0, ""), BadNumber, 13, 5),
-    (Text("P<=1/ 100000", "", 0, ""), BadNumber, 13, 6),
-    (Text("P<=1/2[aU<=00b]", "", 0, ""), BadNumber, 13, 11),
-    (Text("P<=1/2[aU<=  000064b]", "", 0, ""), BadNumber, 13, 13),
-    (Text("P<=0/0", "", 0, ""), BadCeiling, 14, 5),
-    (Text("P<=0/65536", "", 0, ""), BadCeiling, 14, 5),
-    (Text("P<=1/99999[a", "", 0, ""), BadCeiling, 14, 5),
-    (Text("P<=1/0", "", 0, ""), BadCeiling, 14, 5),
-    (Text("P<=2/1[", "", 0, ""), BadCeiling, 14, 5),
-    (Text("P <= 2 / 1", "", 0, ""), BadCeiling, 14, 9),
-    (Text("P<=65535/65534[", "", 0, ""), BadCeiling, 14, 9),
-    (Text("P<=65536/65535[", "", 0, ""), BadCeiling, 14, 9),
-    (Text("P<=99999/65535[", "", 0, ""), BadCeiling, 14, 9),
-    (Text("P<=1/2[aU<=65b]", "", 0, ""), TooManyHops, 15, 11),
-    (Text("P<=1/2[aU<=99999", "", 0, ""), TooManyHops, 15, 11),
-    (Text("P<=1/2[aU<= 65", "", 0, ""), TooManyHops, 15, 12),
-    (Text("P<=1/2[a U <= 65 b]", "", 0, ""), TooManyHops, 15, 14),
+];
+
+const TOKENS: [(&str, usize); 34] = [
+    ("", 0),
+    ("p<=1/2", 0),
+    ("  <=1/2", 2),
+    ("P", 1),
+    ("P< =1/2", 1),
+    ("P<1/2", 1),
+    ("P\t<=1/2", 1),
+    ("P<=", 3),
+    ("P<=-1/2", 3),
+    ("P<=1", 4),
+    ("P<=1 2", 5),
+    ("P<=1/", 5),
+    ("P<=1/2", 6),
+    ("P<=1/2  (", 8),
+    ("P<=1/2[", 7),
+    ("P<=1/2[q", 7),
+    ("P<=1/2[A", 7),
+    ("P<=1/2[)", 7),
+    ("P<=1/2[!T", 8),
+    ("P<=1/2[!!a", 8),
+    ("P<=1/2[!", 8),
+    ("P<=1/2[a", 8),
+    ("P<=1/2[a b", 9),
+    ("P<=1/2[a&  |", 11),
+    ("P<=1/2[a|", 9),
+    ("P<=1/2[(a U", 10),
+    ("P<=1/2[a)", 8),
+    ("P<=1/2[aU", 9),
+    ("P<=1/2[aU<=", 11),
+    ("P<=1/2[aU<=1", 12),
+    ("P<=1/2[aU<=1b", 13),
+    ("P<=1/2[aU<=1b)", 13),
+    ("P<=1/2[aU<=1b]]", 14),
+    ("P<=1/2[aU<=1b] ]", 15),
+];
+
+const NUMBERS: [(&str, PropertyFault, u32, usize); 21] = [
+    ("P<=00/1", BadNumber, 13, 3),
+    ("P<=01/2", BadNumber, 13, 3),
+    ("P<=100000/1", BadNumber, 13, 3),
+    ("P<=1/02", BadNumber, 13, 5),
+    ("P<=1/000000", BadNumber, 13, 5),
+    ("P<=1/ 100000", BadNumber, 13, 6),
+    ("P<=1/2[aU<=00b]", BadNumber, 13, 11),
+    ("P<=1/2[aU<=  000064b]", BadNumber, 13, 13),
+    ("P<=0/0", BadCeiling, 14, 5),
+    ("P<=0/65536", BadCeiling, 14, 5),
+    ("P<=1/99999[a", BadCeiling, 14, 5),
+    ("P<=1/0", BadCeiling, 14, 5),
+    ("P<=2/1[", BadCeiling, 14, 5),
+    ("P <= 2 / 1", BadCeiling, 14, 9),
+    ("P<=65535/65534[", BadCeiling, 14, 9),
+    ("P<=65536/65535[", BadCeiling, 14, 9),
+    ("P<=99999/65535[", BadCeiling, 14, 9),
+    ("P<=1/2[aU<=65b]", TooManyHops, 15, 11),
+    ("P<=1/2[aU<=99999", TooManyHops, 15, 11),
+    ("P<=1/2[aU<= 65", TooManyHops, 15, 12),
+    ("P<=1/2[a U <= 65 b]", TooManyHops, 15, 14),
+];
+
+/// The seventeenth parenthesis, and the 129th part of each kind.
+const LIMITS: [Case; 17] = [
     (Text("P<=1/2[", "(", 17, ""), TooDeep, 16, 23),
     (Text("P<=1/2[", "(", 17, "a"), TooDeep, 16, 23),
     (Text("P<=1/2[", "(", 16, ""), TokenMissing, 12, 23),
@@ -118,13 +129,39 @@ const CASES: [Case; 77] = [
     (Text("P<=1/2[a", "&a", 63, "&?"), TokenMissing, 12, 135),
 ];
 
-#[test]
-fn every_fault(rt: HostRuntime) -> Result<(), Fail> {
-    for (text, fault, number, place) in CASES {
-        let text = made(rt.alloc(), text)?;
-        let refusal = Property::read(text.as_bytes()).err();
-        assert_eq!(rt; refusal, Some(Refusal { fault, place }));
-        assert_eq!(rt; fault.number(), number);
+fn refused(rt: &impl Abort, text: &[u8], fault: PropertyFault, number: u32, place: usize) {
+    assert_eq!(rt; Property::read(text).err(), Some(Refusal { fault, place }));
+    assert_eq!(rt; fault.number(), number);
+}
+
+fn all_refused(rt: &impl Abort, heap: Global, cases: &[Case]) -> Result<(), AllocError> {
+    for (text, fault, number, place) in cases {
+        let text = made(heap, *text)?;
+        refused(rt, text.as_bytes(), *fault, *number, *place);
     }
     Ok(())
+}
+
+#[test]
+fn too_long(rt: HostRuntime) -> Result<(), AllocError> {
+    all_refused(&rt, rt.alloc(), &LENGTHS)
+}
+
+#[test]
+fn tokens_missing(rt: HostRuntime) {
+    for (text, place) in TOKENS {
+        refused(&rt, text.as_bytes(), TokenMissing, 12, place);
+    }
+}
+
+#[test]
+fn numbers(rt: HostRuntime) {
+    for (text, fault, number, place) in NUMBERS {
+        refused(&rt, text.as_bytes(), fault, number, place);
+    }
+}
+
+#[test]
+fn limits(rt: HostRuntime) -> Result<(), AllocError> {
+    all_refused(&rt, rt.alloc(), &LIMITS)
 }
