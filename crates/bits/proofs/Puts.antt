@@ -1,9 +1,9 @@
 -- A field that is written as whole bytes.
-use Rattle.std.proofs.Common.{◌≡◌, ℕ, ◌+◌, ◌-◌, ◌*◌, ◌/◌, ◌%◌, ◌^◌, ◌<◌, ◌≤◌, List, [], ◌∷◌, get_or, sym, ap, ◌∙◌, inl, inr, add-zero, mod-eq_of_lt, add_comm, arith, pow-add, shl_lt, shr-shr, shr_lt}
+use Rattle.std.proofs.Common.{◌≡◌, ℕ, ◌+◌, ◌-◌, ◌*◌, ◌/◌, ◌%◌, ◌^◌, ◌<◌, List, [], ◌∷◌, get_or, sym, ap, ◌∙◌, inl, inr, add_comm, arith, pow-add, shl_lt, shr-shr, shr_lt}
 use lib.Arith.{digits_lt}
 use lib.Pow.{high, low, shl-shr}
 use Rattle.std.proofs.lemmas.Bool.{cases_lt}
-use Rattle.bits.specs.Fields.{field, bit_at}
+use Rattle.bits.specs.Fields.{field}
 use Rattle.bits.specs.Wrote.{Stored, Wrote}
 use Rattle.bits.proofs.Whole.{field_bits, field_byte, field_bytes, field_part}
 

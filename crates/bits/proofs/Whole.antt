@@ -1,5 +1,5 @@
 -- Fields side by side, a field that is a byte, and a field as a quotient and a remainder of the whole.
-use Rattle.std.proofs.Common.{◌≡◌, ℕ, zero, suc, ◌+◌, ◌-◌, ◌*◌, ◌/◌, ◌%◌, ◌^◌, ◌<◌, ◌≤◌, List, get_or, sym, refl, ap, ◌∙◌, inl, inr, add-zero, add_assoc, add-suc, mul_assoc, add-mul, pow-suc, zero-add, mul-one, arith, shr-shr, shr_lt}
+use Rattle.std.proofs.Common.{◌≡◌, ℕ, zero, suc, ◌+◌, ◌-◌, ◌*◌, ◌/◌, ◌%◌, ◌^◌, ◌<◌, ◌≤◌, List, get_or, sym, refl, ap, ◌∙◌, inl, inr, add-zero, add_assoc, add-suc, mul_assoc, pow-suc, arith, shr-shr, shr_lt}
 use Rattle.std.proofs.lemmas.Bool.{cases_eq}
 use lib.Pow.{high, low}
 use Rattle.bits.specs.Fields.{bit_at, field}

@@ -1,5 +1,5 @@
 -- What a chain answers to each question: absent past the end.
-use Rattle.std.specs.Prelude.{ℕ, List, length, Some, None, Option}
+use Rattle.std.specs.Prelude.{ℕ, length, Some, None, Option}
 use Rattle.std.specs.List.{slice_get}
 use Rattle.chain.specs.Markov.{Row, Markov, edges_in}
 

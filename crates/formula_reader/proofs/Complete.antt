@@ -1,9 +1,8 @@
 -- What a text spells is what is read from it.
 use Rattle.std.proofs.Common.{◌≡◌, ℕ, suc, ◌+◌, ◌-◌, ◌<◌, ◌≤◌, true, ltb, List, get_or, Ok, sym, refl, ap, ◌∙◌, add_comm, suc-add, arith}
 use Rattle.std.proofs.lemmas.Bool.{lt-ltb}
-use Rattle.property_parts.specs.Formula.{Formula, letter, no_letter, top, bottom, and, or, root, size}
+use Rattle.property_parts.specs.Formula.{Formula, letter, no_letter, top, bottom, size}
 use Rattle.property_text.specs.Faults.{Read}
-use Rattle.property_text.specs.Tokens.{past}
 use Rattle.property_text.specs.Spelling.{Byte}
 use Rattle.property_text.proofs.Places.{gap_is}
 use Rattle.property_text.proofs.Spelled.{byte_is}

@@ -1,5 +1,5 @@
 -- A loop that reads items joined by an operator: what the whole gives is what the rest gives.
-use Rattle.std.proofs.Common.{◌≡◌, ℕ, zero, suc, ◌+◌, ◌<◌, ◌≤◌, true, false, eqb, ltb, List, [], ◌∷◌, ◌++◌, get_or, Ok, Err, sym, refl, ap, ◌∙◌, append_assoc, arith}
+use Rattle.std.proofs.Common.{◌≡◌, ℕ, zero, suc, ◌+◌, ◌<◌, ◌≤◌, true, false, ltb, List, [], ◌∷◌, ◌++◌, get_or, Ok, Err, sym, refl, ap, ◌∙◌, append_assoc, arith}
 use Rattle.std.proofs.lemmas.Bool.{lt-ltb, le-ltb, eq-eqb, ne_eqb}
 use Rattle.refusal.specs.declared.Refusal.{Refusal}
 use Rattle.property_parts.specs.Formula.{Formula, root, size, parts_of}
@@ -7,7 +7,7 @@ use Rattle.property_parts.specs.Parts.{most_parts}
 use Rattle.property_parts.specs.declared.parts.Part.{Part}
 use Rattle.property_parts.specs.declared.parts.Part.TheVariants.{And, Or}
 use Rattle.property_parts.specs.declared.table.PartTable.{PartTable}
-use Rattle.property_text.specs.Faults.{Read, refused, ◌>>=◌}
+use Rattle.property_text.specs.Faults.{refused, ◌>>=◌}
 use Rattle.property_text.specs.Tokens.{past}
 use Rattle.property_text.specs.declared.fault.PropertyFault.{PropertyFault}
 use Rattle.property_text.specs.declared.fault.PropertyFault.TheVariants.{TooManyParts}

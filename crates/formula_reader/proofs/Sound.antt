@@ -1,9 +1,9 @@
 -- What is read from a text is what it spells.
-use Rattle.std.proofs.Common.{◌≡◌, ℕ, zero, suc, ◌+◌, ◌-◌, ◌<◌, ◌≤◌, Bool, true, false, eqb, ltb, leb, List, get_or, Ok, sym, refl, ap, ◌∙◌, subst, inl, inr, arith}
+use Rattle.std.proofs.Common.{◌≡◌, ℕ, zero, suc, ◌+◌, ◌-◌, ◌<◌, ◌≤◌, true, eqb, ltb, leb, List, get_or, Ok, refl, subst, inl, inr, arith}
 use Rattle.std.proofs.lemmas.Bool.{ltb-true, leb-true, eqb-true, and_parts, cases_Bool}
-use Rattle.property_parts.specs.Formula.{Formula, letter, no_letter, top, bottom, root, size}
+use Rattle.property_parts.specs.Formula.{Formula, top, bottom, root, size}
 use Rattle.property_parts.specs.Parts.{most_parts}
-use Rattle.property_text.specs.Faults.{Read, ◌>>=◌}
+use Rattle.property_text.specs.Faults.{Read}
 use Rattle.property_text.specs.Tokens.{past, byte}
 use Rattle.property_text.specs.Spelling.{Byte}
 use Rattle.property_text.proofs.Places.{gap_past}

@@ -1,18 +1,17 @@
 -- What a factor gives, by the byte that it begins with.
-use Rattle.std.proofs.Common.{◌≡◌, ℕ, zero, suc, ◌+◌, ◌-◌, ◌<◌, ◌≤◌, true, false, eqb, ltb, leb, List, [], ◌∷◌, ◌++◌, get_or, Ok, Err, Result, sym, refl, ap, ◌∙◌, append_assoc, arith}
+use Rattle.std.proofs.Common.{◌≡◌, ℕ, zero, suc, ◌+◌, ◌-◌, ◌≤◌, true, ltb, List, get_or, Ok, Err, Result, sym, refl, ap, ◌∙◌, append_assoc, arith}
 use Rattle.std.proofs.lemmas.Bool.{lt-ltb, le-leb, and_from}
 use Rattle.refusal.specs.declared.Refusal.{Refusal}
-use Rattle.property_parts.specs.Formula.{Formula, letter, no_letter, top, bottom, root, size, parts_of}
+use Rattle.property_parts.specs.Formula.{Formula, letter, no_letter, top, bottom}
 use Rattle.property_parts.specs.Parts.{most_parts}
-use Rattle.property_parts.specs.declared.parts.Part.{Part}
 use Rattle.property_parts.specs.declared.parts.Part.TheVariants.{Letter, Not}
 use Rattle.property_parts.specs.declared.table.PartTable.{PartTable}
 use Rattle.property_text.specs.Faults.{Read, refused, ◌>>=◌}
 use Rattle.property_text.specs.Tokens.{past, byte}
 use Rattle.property_text.specs.declared.fault.PropertyFault.{PropertyFault}
 use Rattle.property_text.specs.declared.fault.PropertyFault.TheVariants.{TooDeep}
-use Rattle.formula_reader.specs.Reading.{Reader, lettered, room, single, negated, factor_by, nested, factor, state}
-use Rattle.property_parts.specs.Table.{held, Filled}
+use Rattle.formula_reader.specs.Reading.{Reader, lettered, single, negated, factor_by, nested, factor, state}
+use Rattle.property_parts.specs.Table.{Filled}
 use Rattle.formula_reader.specs.Answers.{Made, Answers}
 
 -- the same, of what is equal to it

@@ -1,5 +1,5 @@
 -- Where the rows and edges of a body without a fault stand.
-use Rattle.std.proofs.Common.{◌≡◌, ℕ, zero, suc, ◌+◌, ◌-◌, ◌*◌, ◌<◌, ◌≤◌, List, [], ◌∷◌, length, Some, None, Option, sym, refl, ap, ◌∙◌, add-one, arith}
+use Rattle.std.proofs.Common.{◌≡◌, ℕ, zero, suc, ◌+◌, ◌-◌, ◌*◌, ◌<◌, ◌≤◌, List, length, Some, None, Option, sym, refl, add-one, arith}
 use Rattle.std.specs.List.{slice_get}
 use Rattle.std.proofs.lemmas.Option.{slice_get_past}
 use Rattle.std.proofs.lemmas.Bool.{leb-true}
@@ -9,7 +9,7 @@ use Rattle.bits.specs.Fields.{field}
 use Rattle.bits.proofs.Whole.{field_lt}
 use Rattle.chain.specs.Limits.{most_edges}
 use Rattle.chain.specs.Markov.{edges_in}
-use Rattle.chain.specs.Questions.{propositions_of, degree_of, edge_of}
+use Rattle.chain.specs.Questions.{degree_of, edge_of}
 use Rattle.packed_file.specs.Format.{edges_at, row_at, rows_at, count_at, after_row, states_in, denominator_in, first_row, longest_body, decoded}
 use Rattle.packed_file.specs.Faults.{body_demands, row_demands, rows_demands, edges_demands}
 use Rattle.packed_file.specs.Judgement.{Faultless}

@@ -6,7 +6,6 @@ use Rattle.std.proofs.ByRecursion.{All-append}
 use Rattle.std.proofs.lemmas.List.{ext_get_or, get_or_append_left, get_or-append-add}
 use Rattle.std.proofs.lemmas.Bool.{cases_lt, cases_eq}
 use Rattle.bits.specs.Fields.{field, bit_at}
-use Rattle.bits.specs.Mirror.{mirrored}
 use Rattle.bits.proofs.Whole.{field_same, field_bits, field_byte, value_more, whole_shift}
 use Rattle.bits.proofs.Mirrors.{mirrored_lt}
 use Rattle.chain.specs.Markov.{Row, Markov, Rising, LawfulRow, Lawful, weight_sum}

@@ -1,18 +1,17 @@
 -- A body breaks no demand exactly where it is that of a lawful chain.
-use Rattle.std.proofs.Common.{◌≡◌, ℕ, zero, suc, ◌+◌, ◌-◌, ◌*◌, ◌^◌, ◌<◌, ◌≤◌, true, ◌&&◌, eqb, ltb, leb, List, [], ◌∷◌, ◌++◌, length, sym, refl, ap, ◌∙◌, subst, arith}
+use Rattle.std.proofs.Common.{◌≡◌, ℕ, zero, suc, ◌+◌, ◌-◌, ◌*◌, ◌<◌, ◌≤◌, eqb, ltb, leb, List, [], ◌∷◌, ◌++◌, length, sym, refl, ap, arith}
 use Rattle.std.specs.List.{flat_map, AllByRecursion}
 use Rattle.std.proofs.lemmas.Bool.{and_parts, and_from, leb-true, ltb-true, eqb-true, le-leb, lt-ltb, eq-eqb}
 use Rattle.refusal.specs.Demands.{Met}
 use Rattle.refusal.proofs.Told.{met_append, met_left, met_right}
 use Rattle.bits.specs.Fields.{field}
-use Rattle.bits.specs.Mirror.{mirrored}
 use Rattle.bits.proofs.Whole.{field_lt}
 use Rattle.bits.proofs.Mirrors.{mirrored_lt, mirrored_back}
 use Rattle.chain.specs.Limits.{most_edges}
-use Rattle.chain.specs.Markov.{Row, Markov, Rising, LawfulRow, Lawful, weight_sum, edges_in}
+use Rattle.chain.specs.Markov.{Row, Markov, Rising, LawfulRow, Lawful, edges_in}
 use Rattle.packed_file.specs.Format.{layout, edge_fields, row_fields, edges_at, row_at, rows_at, count_at, after_row, states_in, denominator_in, start_in, first_row, decoded}
 use Rattle.packed_file.proofs.Holding.{Holds}
-use Rattle.packed_file.specs.Faults.{body_demands, edges_demands, rows_demands, row_demands, sum_demand, nothing_left}
+use Rattle.packed_file.specs.Faults.{body_demands, edges_demands, rows_demands, row_demands, sum_demand}
 
 pub length_edges : (bs : List ℕ) (p k : ℕ) → length (edges_at bs p k) ≡ k
 unfolding edges_at

@@ -1,12 +1,12 @@
 -- A file is judged by its front: no byte beyond the first after the longest file is asked for.
-use Rattle.std.proofs.Common.{◌≡◌, ℕ, zero, suc, ◌+◌, ◌-◌, ◌*◌, ◌/◌, ◌<◌, ◌≤◌, Bool, true, false, cond, ◌&&◌, eqb, ltb, leb, ◌⊎◌, List, [], ◌∷◌, ◌++◌, length, take, drop, sym, refl, ap, ◌∙◌, inl, inr, arith}
+use Rattle.std.proofs.Common.{◌≡◌, ℕ, zero, suc, ◌+◌, ◌-◌, ◌*◌, ◌/◌, ◌<◌, ◌≤◌, true, leb, List, [], ◌∷◌, ◌++◌, length, take, sym, refl, ap, ◌∙◌, inl, inr, arith}
 use Rattle.std.proofs.lemmas.List.{get_or-take, length-take-le, take_all}
 use Rattle.std.proofs.lemmas.Bool.{cases_lt, le-leb, lt-leb, le-ltb}
 use Rattle.refusal.specs.Demands.{Demand, told}
-use Rattle.bits.specs.Fields.{field, bit_at}
+use Rattle.bits.specs.Fields.{field}
 use Rattle.bits.proofs.Whole.{field_same, field_lt}
 use Rattle.chain.specs.Limits.{most_edges}
-use Rattle.packed_file.specs.Format.{edges_at, count_at, after_row, states_in, denominator_in, start_in, first_row, longest_body}
+use Rattle.packed_file.specs.Format.{edges_at, count_at, after_row, states_in, denominator_in, first_row, longest_body}
 use Rattle.packed_file.specs.Faults.{edges_demands, row_demands, rows_demands, body_demands, judged, deciding_bytes}
 
 -- the two bodies have the same first `bits` bits, and end no earlier

@@ -1,15 +1,15 @@
 -- One turn of each loop of the check, and what a row's parts tell together.
-use Rattle.std.proofs.Common.{◌≡◌, ℕ, zero, suc, ◌+◌, ◌-◌, ◌*◌, ◌/◌, ◌<◌, ◌≤◌, true, false, eqb, ltb, List, [], ◌∷◌, ◌++◌, length, Ok, Err, Result, sym, refl, ap, ◌∙◌, arith}
+use Rattle.std.proofs.Common.{◌≡◌, ℕ, zero, suc, ◌+◌, ◌-◌, ◌*◌, ◌/◌, ◌<◌, ◌≤◌, true, false, eqb, ltb, List, [], ◌∷◌, ◌++◌, length, Ok, Err, Result, sym, ap, ◌∙◌, arith}
 use Rattle.std.proofs.lemmas.Bool.{ne_eqb, eq-eqb, lt-ltb, and_from}
 use Rattle.refusal.specs.declared.Refusal.{Refusal}
 use Rattle.refusal.specs.Demands.{told}
-use Rattle.refusal.proofs.Told.{told_ok, told_on, told_value, told_stop}
+use Rattle.refusal.proofs.Told.{told_on, told_value, told_stop}
 use Rattle.bits.specs.Fields.{field}
 use Rattle.bits.proofs.Whole.{field_none}
 use Rattle.chain.specs.Markov.{weight_sum}
 use Rattle.packed_file.specs.declared.fault.FileFault.{FileFault}
 use Rattle.packed_file.specs.declared.fault.FileFault.TheVariants.{WrongSum}
-use Rattle.packed_file.specs.Format.{edges_at, rows_at, count_at, after_row}
+use Rattle.packed_file.specs.Format.{edges_at, count_at, after_row}
 use Rattle.packed_file.specs.Faults.{Demands, edge_demands, edges_demands, count_demands, sum_demand, row_demands, rows_demands, end_demands, nothing_left}
 
 module _ (bs : List ℕ) (n : ℕ) where

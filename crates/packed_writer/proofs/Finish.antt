@@ -1,19 +1,19 @@
 -- The front of a buffer into which a chain's fields were written is the chain's file.
-use Rattle.std.proofs.Common.{◌≡◌, ℕ, zero, suc, ◌+◌, ◌-◌, ◌*◌, ◌/◌, ◌%◌, ◌^◌, ◌<◌, ◌≤◌, List, [], ◌∷◌, ◌++◌, length, get_or, take, drop, Ok, sym, refl, ap, ◌∙◌, subst, arith, length-append}
+use Rattle.std.proofs.Common.{◌≡◌, ℕ, zero, suc, ◌+◌, ◌-◌, ◌*◌, ◌/◌, ◌%◌, ◌<◌, ◌≤◌, List, [], ◌∷◌, ◌++◌, length, take, drop, Ok, sym, refl, ap, ◌∙◌, arith, length-append}
 use Rattle.std.specs.List.{flat_map}
 use Rattle.std.proofs.lemmas.List.{get_or-take, get_or-drop, length-take-le, length-drop, ext_get_or, take_all, take-append-le, take-append-drop}
 use Rattle.bits.specs.Fields.{field, bit_at}
 use Rattle.bits.specs.Wrote.{width_of, Stand, Wrote}
-use Rattle.bits.proofs.Whole.{field_same, field_append, field_byte}
-use Rattle.chain.specs.Markov.{Row, Markov, Lawful, edges_in}
-use Rattle.packed_file.specs.Format.{marked, layout, header_fields, row_fields, bits, all_bits, packed, encode}
+use Rattle.bits.proofs.Whole.{field_append, field_byte}
+use Rattle.chain.specs.Markov.{Markov, Lawful}
+use Rattle.packed_file.specs.Format.{layout, header_fields, row_fields, bits, all_bits, encode}
 use Rattle.packed_file.specs.Faults.{judged}
 use Rattle.packed_file.specs.TakenUp.{taken_up}
 use Rattle.packed_file.proofs.Judged.{encoded_judged, encoded_taken_up}
 use Rattle.packed_file.proofs.Holding.{Holds, Bytes}
 use Rattle.packed_file.proofs.Files.{length_bits, length_bytes_from, holds_packed}
 use Rattle.packed_writer.specs.Within.{file_bits}
-use Rattle.packed_writer.proofs.Steps.{width_append, width_rows, stand_same, wrote_more, rows_wrote_end}
+use Rattle.packed_writer.proofs.Steps.{width_rows, stand_same, wrote_more, rows_wrote_end}
 
 length_all : (fs : List (ℕ × ℕ)) → length (all_bits fs) ≡ width_of fs
 length_all [] = refl

@@ -1,8 +1,8 @@
 -- Writes one after another.
-use Rattle.std.proofs.Common.{◌≡◌, ℕ, zero, suc, ◌+◌, ◌-◌, ◌*◌, ◌/◌, ◌^◌, ◌<◌, ◌≤◌, List, [], ◌∷◌, ◌++◌, length, get_or, take, drop, sym, refl, ap, ◌∙◌, arith}
+use Rattle.std.proofs.Common.{◌≡◌, ℕ, ◌+◌, ◌-◌, ◌*◌, ◌<◌, ◌≤◌, List, [], ◌∷◌, ◌++◌, length, get_or, take, drop, refl, ◌∙◌, arith}
 use Rattle.std.specs.List.{flat_map}
 use Rattle.std.proofs.lemmas.List.{take_more, take_all, flat_map_more, at_drop_more}
-use Rattle.bits.specs.Fields.{field, bit_at}
+use Rattle.bits.specs.Fields.{bit_at}
 use Rattle.bits.specs.Mirror.{mirrored}
 use Rattle.bits.specs.Wrote.{width_of, Stand, Wrote}
 use Rattle.bits.proofs.Whole.{field_same}

@@ -1,5 +1,5 @@
 -- What a chain has at a state, and where its rows end in its file.
-use Rattle.std.specs.Prelude.{ℕ, ◌+◌, ◌*◌, List, [], length, slice_index_or}
+use Rattle.std.specs.Prelude.{ℕ, ◌+◌, ◌*◌, [], length, slice_index_or}
 use Rattle.chain.specs.Markov.{Row, Markov, edges_in}
 
 abbrev pub no_row : Row

@@ -1,8 +1,7 @@
 -- The parts of a property that a text asks for are true where its formulas are.
-use Rattle.std.proofs.Common.{◌≡◌, ℕ, ◌+◌, ◌≤◌, false, List, ◌++◌, length, sym, ap, ◌∙◌, arith, length-append}
-use Rattle.property_parts.specs.Formula.{Formula, holds_in, size, parts_of}
+use Rattle.std.proofs.Common.{◌≡◌, ℕ, ◌+◌, ◌≤◌, false, ◌++◌, length, ap, ◌∙◌, arith, length-append}
+use Rattle.property_parts.specs.Formula.{holds_in, size, parts_of}
 use Rattle.property_parts.specs.Parts.{Falls, truth_rule, truth}
-use Rattle.property_parts.specs.declared.parts.Part.{Part}
 use Rattle.property_parts.proofs.Values.{length_parts, first_made, second_made, truth_local, truth_follows}
 use Rattle.property.specs.Asked.{Asked, InParts, in_parts}
 

@@ -1,5 +1,5 @@
 -- The fresh property is the one that `P<=0/1[F U<=0 F]` spells.
-use Rattle.std.proofs.Common.{◌≡◌, ℕ, ◌<◌, List, [], ◌∷◌, ◌++◌, Some, None, Ok, codes, Option, unwrap_or, sym, refl, ap, ◌∙◌, ap₂, arith, MatchOption}
+use Rattle.std.proofs.Common.{◌≡◌, ℕ, ◌<◌, [], ◌∷◌, ◌++◌, Some, None, Ok, codes, Option, unwrap_or, refl, ap, ◌∙◌, arith, MatchOption}
 use Rattle.property_parts.specs.Parts.{most_parts}
 use Rattle.property_parts.specs.Table.{held, Filled}
 use Rattle.property_parts.specs.declared.parts.Part.{Part}

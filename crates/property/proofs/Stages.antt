@@ -1,11 +1,11 @@
 -- The whole text, stage by stage, up to what the reader answers.
-use Rattle.std.proofs.Common.{◌≡◌, ℕ, ◌+◌, ◌≤◌, List, [], ◌++◌, length, Ok, Err, sym, refl, ap, ◌∙◌, ap₂, zero-add, arith}
+use Rattle.std.proofs.Common.{◌≡◌, ℕ, ◌+◌, ◌≤◌, List, [], ◌++◌, length, Ok, Err, sym, refl, ap, ◌∙◌, ap₂, arith}
 use Rattle.refusal.specs.declared.Refusal.{Refusal}
-use Rattle.property_parts.specs.Formula.{Formula, root, size, parts_of}
+use Rattle.property_parts.specs.Formula.{root, size, parts_of}
 use Rattle.property_parts.specs.Parts.{most_parts}
 use Rattle.property_parts.specs.Table.{held}
 use Rattle.property_parts.specs.declared.table.PartTable.{PartTable}
-use Rattle.property_text.specs.Faults.{Read, ◌>>=◌}
+use Rattle.property_text.specs.Faults.{◌>>=◌}
 use Rattle.property_text.specs.Tokens.{past}
 use Rattle.property_text.specs.declared.fault.PropertyFault.{PropertyFault}
 use Rattle.formula_reader.specs.Reading.{state}

@@ -1,10 +1,10 @@
 -- The whole text is read exactly where it spells a property.
-use Rattle.std.proofs.Common.{◌≡◌, ℕ, ◌+◌, ◌<◌, ◌≤◌, Bool, true, false, cond, ◌&&◌, eqb, ltb, leb, List, length, get_or, Ok, Err, sym, refl, ap, ◌∙◌, subst, inl, inr, arith}
+use Rattle.std.proofs.Common.{◌≡◌, ℕ, ◌<◌, ◌≤◌, true, ◌&&◌, eqb, ltb, leb, List, length, Ok, Err, sym, refl, ap, ◌∙◌, subst, inl, inr, arith}
 use Rattle.std.proofs.lemmas.Bool.{ltb-false, leb-true, eqb-true, lt-ltb, le-ltb, le-leb, eq-eqb, and_parts, cases_Bool}
 use Rattle.refusal.specs.declared.Refusal.{Refusal}
-use Rattle.property_parts.specs.Formula.{Formula, size}
+use Rattle.property_parts.specs.Formula.{size}
 use Rattle.property_parts.specs.Parts.{most_parts}
-use Rattle.property_text.specs.Faults.{Read, refused, ◌>>=◌}
+use Rattle.property_text.specs.Faults.{Read, refused}
 use Rattle.property_text.specs.Tokens.{past, byte, at_most, number}
 use Rattle.property_text.specs.Spelling.{Byte, AtMost, Number}
 use Rattle.property_text.specs.declared.fault.PropertyFault.{PropertyFault}
@@ -18,8 +18,8 @@ use Rattle.formula_reader.proofs.Complete.{state_spelled}
 use Rattle.formula_reader.proofs.Sound.{state_read}
 use Rattle.property.specs.Limits.{most_bytes, most_lower, most_hops, most_open}
 use Rattle.property.specs.Asked.{Asked}
-use Rattle.property.specs.Grammar.{Limited, Spelled}
-use Rattle.property.specs.Reading.{lower, hops, opening, until, closing, whole, read}
+use Rattle.property.specs.Grammar.{Spelled}
+use Rattle.property.specs.Reading.{lower, opening, until, closing, whole, read}
 use Rattle.property.specs.declared.ceiling.Ceiling.{Ceiling}
 
 pub read_long : (s : List ℕ) → most_bytes < length s → read s ≡ refused TextTooLong most_bytes

@@ -1,5 +1,5 @@
 -- Which texts spell which properties.
-use Rattle.std.specs.Prelude.{◌≡◌, ℕ, ◌+◌, ◌≤◌, List, length}
+use Rattle.std.specs.Prelude.{ℕ, ◌+◌, ◌≤◌, List, length}
 use Rattle.property_parts.specs.Formula.{size}
 use Rattle.property_parts.specs.Parts.{most_parts}
 use Rattle.property_parts.specs.declared.kinds.Kind.TheVariants.{State}

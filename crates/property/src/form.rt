@@ -15,9 +15,11 @@ impl fmt::Display for Property {
         let lower = self.ceiling.lower;
         let hops = self.hop_bound;
         write!(f, "P<={upper}/{lower}[")?;
-        self.parts.write_part(self.ground_part as usize, Kind::State, f)?;
+        self.parts
+            .write_part(self.ground_part as usize, Kind::State, f)?;
         write!(f, " U<={hops} ")?;
-        self.parts.write_part(self.goal_part as usize, Kind::State, f)?;
+        self.parts
+            .write_part(self.goal_part as usize, Kind::State, f)?;
         f.write_str("]")
     }
 }

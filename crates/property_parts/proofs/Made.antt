@@ -1,5 +1,5 @@
 -- What a rule makes of a part is what it makes from what it makes of the part's operands.
-use Rattle.std.proofs.Common.{◌≡◌, ℕ, zero, suc, ◌<◌, true, List, get_or, take, refl, ap, ◌∙◌, arith}
+use Rattle.std.proofs.Common.{◌≡◌, ℕ, zero, suc, ◌<◌, true, List, get_or, take, ap, ◌∙◌, arith}
 use Rattle.property_parts.specs.Parts.{names_earlier, Falls, Rule, made_within, made_of}
 use Rattle.property_parts.specs.declared.parts.Part.{Part}
 use Rattle.property_parts.specs.declared.parts.Part.TheVariants.{Letter}

@@ -1,8 +1,8 @@
 -- What a rule makes of a formula's own part is what is made of the formula.
-use Rattle.std.proofs.Common.{◌≡◌, ℕ, ◌+◌, ◌<◌, ◌≤◌, Bool, true, false, not, ◌&&◌, ◌||◌, ltb, List, [], ◌∷◌, ◌++◌, length, get_or, sym, refl, ap, ◌∙◌, ap₂, append_assoc, append-nil, add-zero, zero-add, arith, length-append}
+use Rattle.std.proofs.Common.{◌≡◌, ℕ, ◌+◌, ◌<◌, ◌≤◌, not, ◌&&◌, ◌||◌, List, [], ◌∷◌, ◌++◌, length, get_or, sym, refl, ap, ◌∙◌, ap₂, append_assoc, append-nil, add-zero, zero-add, arith, length-append}
 use lib.Seq.{get_or_at}
 use Rattle.std.proofs.lemmas.Bool.{ltb-true}
-use Rattle.property_parts.specs.Parts.{names_earlier, Falls, Rule, made_of, truth_rule, truth}
+use Rattle.property_parts.specs.Parts.{Falls, Rule, made_of, truth_rule}
 use Rattle.property_parts.specs.Formula.{Formula, letter, no_letter, top, bottom, and, or, holds_in, root, size, parts_of}
 use Rattle.property_parts.specs.declared.parts.Part.{Part}
 use Rattle.property_parts.specs.declared.parts.Part.TheVariants.{Letter, Not, True, False, And, Or}

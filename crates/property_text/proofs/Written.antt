@@ -1,13 +1,13 @@
 -- A number is read exactly where the text spells it.
 use Rattle.std.proofs.Common.{◌≡◌, ℕ, ◌+◌, ◌-◌, ◌*◌, ◌<◌, ◌≤◌, Bool, true, false, cond, ◌&&◌, ◌||◌, eqb, ltb, ◌⊎◌, List, [], ◌∷◌, ◌++◌, length, get_or, drop, Ok, Err, sym, refl, ap, ◌∙◌, subst, ap₂, subst₂, inl, inr, append_assoc, append-nil, add-zero, arith, length-append}
-use Rattle.std.proofs.lemmas.Bool.{cases_lt, cases_eq, ltb-false, eq-eqb, or_parts, and_cases, both_ways}
+use Rattle.std.proofs.lemmas.Bool.{cases_lt, ltb-false, eq-eqb, or_parts, and_cases, both_ways}
 use Rattle.refusal.specs.declared.Refusal.{Refusal}
 use Rattle.property_text.specs.Faults.{Read}
 use Rattle.property_text.specs.Tokens.{digits, worth, past, numeral, number}
 use Rattle.property_text.specs.Spelling.{Digit, Digits, Number}
 use Rattle.property_text.specs.Spelling.Digits.{one_digit, one_more}
 use Rattle.property_text.specs.declared.fault.PropertyFault.{PropertyFault}
-use Rattle.property_text.proofs.Places.{inside, gap_past, gap_is}
+use Rattle.property_text.proofs.Places.{inside, gap_is}
 use Rattle.property_text.proofs.Numerals.{digit_some, digit_none, number_ok, worth_more, worth_none}
 use Rattle.property_text.proofs.Read.{err_ok}
 use Rattle.property_text.proofs.Spelled.{gap_to}

@@ -1,5 +1,5 @@
 -- Tokens as they are read at a place: the place where the next one should begin, or the refusal.
-use Rattle.std.specs.Prelude.{ℕ, suc, ◌+◌, ◌-◌, ◌*◌, Bool, cond, ◌&&◌, ◌||◌, List, [], ◌∷◌, length, drop, Ok, ◌==◌, nat_le, nat_lt, slice_index}
+use Rattle.std.specs.Prelude.{ℕ, suc, ◌+◌, ◌-◌, ◌*◌, cond, ◌&&◌, ◌||◌, List, [], ◌∷◌, length, drop, Ok, ◌==◌, nat_le, nat_lt, slice_index}
 use Rattle.property_text.specs.Faults.{Read, refused}
 use Rattle.property_text.specs.declared.fault.PropertyFault.TheVariants.{TokenMissing, BadNumber}
 

@@ -1,12 +1,11 @@
 -- Where the rows and edges of tables without a fault stand.
-use Rattle.std.proofs.Common.{◌≡◌, ℕ, zero, suc, ◌+◌, ◌-◌, ◌%◌, ◌^◌, ◌<◌, ◌≤◌, List, [], ◌∷◌, length, Some, None, Option, sym, refl, ap, ◌∙◌, add-one, arith}
+use Rattle.std.proofs.Common.{◌≡◌, ℕ, zero, suc, ◌+◌, ◌%◌, ◌^◌, ◌<◌, ◌≤◌, List, length, Some, None, Option, sym, refl, add-one, arith}
 use Rattle.std.specs.List.{slice_get}
 use Rattle.std.proofs.lemmas.Option.{slice_get_past}
 use Rattle.refusal.specs.Demands.{Met}
 use Rattle.refusal.proofs.Told.{ok_met, met_left, met_right}
 use Rattle.chain.specs.Limits.{most_states, most_edges}
-use Rattle.chain.specs.Markov.{Markov, Lawful}
-use Rattle.chain.specs.Questions.{edge_total, propositions_of, degree_of, edge_of}
+use Rattle.chain.specs.Questions.{propositions_of, degree_of, edge_of}
 use Rattle.tables.specs.declared.tables.TableRow.{TableRow}
 use Rattle.tables.specs.declared.tables.TableEdge.{TableEdge}
 use Rattle.tables.specs.Tabled.{edge_at, row_at, edges_from, row_of, rows_from, tabled}

@@ -1,9 +1,9 @@
 -- One turn of each loop of the check, and what a row's parts tell together.
-use Rattle.std.proofs.Common.{◌≡◌, ℕ, zero, suc, ◌+◌, ◌-◌, ◌<◌, ◌≤◌, true, false, eqb, leb, List, [], ◌∷◌, ◌++◌, length, Ok, Err, sym, refl, ap, ◌∙◌, arith}
+use Rattle.std.proofs.Common.{◌≡◌, ℕ, zero, suc, ◌+◌, ◌-◌, ◌<◌, ◌≤◌, true, false, eqb, leb, List, [], ◌∷◌, ◌++◌, length, Ok, Err, sym, ◌∙◌, arith}
 use Rattle.std.proofs.lemmas.Bool.{ne_eqb, eq-eqb, le-leb}
 use Rattle.refusal.specs.declared.Refusal.{Refusal}
 use Rattle.refusal.specs.Demands.{demand, told}
-use Rattle.refusal.proofs.Told.{told_ok, told_on, told_value, told_stop}
+use Rattle.refusal.proofs.Told.{told_on, told_value, told_stop}
 use Rattle.chain.specs.Limits.{most_edges}
 use Rattle.chain.specs.Markov.{weight_sum}
 use Rattle.tables.specs.declared.tables.TableRow.{TableRow}

@@ -1,8 +1,7 @@
-use Rattle.std.proofs.Common.{◌≡◌, ◌+◌, ◌-◌, get_or, Err, sym, refl, ap, ◌∙◌, arith, rules}
+use Rattle.std.proofs.Common.{◌≡◌, ◌-◌, get_or, Err, sym, refl, ap, ◌∙◌, arith}
 use Rattle.std.proofs.lemmas.Result.{err_from_is_err_and}
 use Rattle.property_parts.specs.Formula.{letter, top, bottom}
 use Rattle.property_parts.specs.Parts.{most_parts}
-use Rattle.property_text.specs.Tokens.{past}
 use Rattle.formula_reader.specs.Reading.{conjunction, disjunction, single, nested, factor, term}
 use Rattle.formula_reader.proofs.Going.{going_start, going_on, loop_end, loop_bad, loop_full}
 use Rattle.formula_reader.proofs.Steps.{made_as, answers_as, factor_letter, factor_top, factor_bottom, factor_open, nested_none, inside_bad, inside_unclosed, inside_closed}

@@ -1,4 +1,4 @@
-use Rattle.std.proofs.Common.{◌≡◌, ◌-◌, get_or, ap, subst, arith}
+use Rattle.std.proofs.Common.{◌-◌, get_or, subst, arith}
 use Rattle.property_parts.specs.Table.{Filled}
 use Rattle.property_parts.specs.declared.parts.Part.TheVariants.{Letter}
 use Rattle.formula_reader.proofs.Steps.{negated_made, is_lettered}

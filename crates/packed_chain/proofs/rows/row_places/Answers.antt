@@ -1,7 +1,7 @@
-use Rattle.std.proofs.Common.{◌≡◌, ◌+◌, ◌-◌, ◌<◌, ◌≢◌, length, sym, ◌∙◌, arith, length-set, get_or-set_other, get_or-set_same, rules, below_more}
+use Rattle.std.proofs.Common.{◌≡◌, ◌+◌, ◌-◌, ◌<◌, ◌≢◌, length, ◌∙◌, arith, length-set, get_or-set_other, get_or-set_same, rules, below_more}
 use Rattle.packed_file.specs.Format.{states_in}
 use Rattle.packed_file.proofs.Judged.{faultless_lawful}
-use Rattle.packed_chain.proofs.Lookup.{Within, within, place_none, place_more, sum_more, sum_all}
+use Rattle.packed_chain.proofs.Lookup.{within, place_none, place_more, sum_more, sum_all}
 use Rattle.packed_chain.proofs.rows.row_places.Goals as goal
 
 pub loop-state-init : goal.loop-state-init

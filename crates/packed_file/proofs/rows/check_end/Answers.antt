@@ -1,4 +1,4 @@
-use Rattle.std.proofs.Common.{◌≡◌, ◌-◌, ◌*◌, length, sym, ◌∙◌, arith}
+use Rattle.std.proofs.Common.{◌≡◌, ◌-◌, ◌*◌, length, sym, ◌∙◌}
 use Rattle.bits.specs.Fields.{field}
 use Rattle.packed_file.proofs.Turns.{ended, field_past}
 use Rattle.packed_file.proofs.rows.check_end.Goals as goal

@@ -1,4 +1,3 @@
-use Rattle.std.proofs.Common.{◌≡◌}
 use Rattle.packed_writer.proofs.Inside.{count_answer}
 use Rattle.packed_writer.proofs.asked.edge_count_of.Goals as goal
 

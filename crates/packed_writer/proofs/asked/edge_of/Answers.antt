@@ -1,4 +1,3 @@
-use Rattle.std.proofs.Common.{◌≡◌}
 use Rattle.packed_writer.proofs.Inside.{edge_answer}
 use Rattle.packed_writer.proofs.asked.edge_of.Goals as goal
 

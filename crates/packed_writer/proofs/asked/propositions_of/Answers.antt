@@ -1,4 +1,3 @@
-use Rattle.std.proofs.Common.{◌≡◌}
 use Rattle.packed_writer.proofs.Inside.{letters_answer}
 use Rattle.packed_writer.proofs.asked.propositions_of.Goals as goal
 

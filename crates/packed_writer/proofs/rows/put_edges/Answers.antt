@@ -1,6 +1,5 @@
-use Rattle.std.proofs.Common.{◌≡◌, ◌+◌, ◌*◌, ◌<◌, [], length, sym, arith}
+use Rattle.std.proofs.Common.{◌≡◌, ◌+◌, ◌*◌, ◌<◌, [], length, arith}
 use Rattle.packed_file.specs.Format.{edge_fields}
-use Rattle.bits.specs.Wrote.{Wrote}
 use Rattle.packed_writer.specs.Within.{row_of}
 use Rattle.packed_writer.proofs.Steps.{wrote_none, wrote_to, wrote_all, edges_next}
 use Rattle.packed_writer.proofs.rows.put_edges.Goals as goal

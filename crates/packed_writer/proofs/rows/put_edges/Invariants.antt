@@ -1,4 +1,4 @@
-use Rattle.std.proofs.Common.{◌≡◌, ◌+◌, ◌*◌, length, take}
+use Rattle.std.proofs.Common.{◌+◌, ◌*◌, take}
 use Rattle.std.specs.List.{flat_map}
 use Rattle.packed_file.specs.Format.{edge_fields}
 use Rattle.bits.specs.Wrote.{Wrote}

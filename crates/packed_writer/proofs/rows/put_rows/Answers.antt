@@ -1,4 +1,4 @@
-use Rattle.std.proofs.Common.{◌≡◌, ◌+◌, ◌*◌, ◌<◌, length, sym, arith}
+use Rattle.std.proofs.Common.{◌+◌, ◌<◌, length, arith}
 use Rattle.packed_file.specs.Format.{row_fields}
 use Rattle.packed_writer.specs.Within.{no_row}
 use Rattle.packed_writer.proofs.Steps.{wrote_none, wrote_next, wrote_all, room_row, rows_wrote_end}

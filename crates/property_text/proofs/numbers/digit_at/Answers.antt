@@ -1,4 +1,4 @@
-use Rattle.std.proofs.Common.{◌≡◌, ◌+◌, ◌-◌, ◌<◌, ◌∷◌, length, drop, sym, ap, ◌∙◌, inl, inr, arith}
+use Rattle.std.proofs.Common.{◌+◌, ◌-◌, ◌<◌, ◌∷◌, length, drop, sym, ap, ◌∙◌, inl, inr, arith}
 use Rattle.property_text.specs.Tokens.{digits}
 use Rattle.property_text.proofs.Numerals.{digit_some, digit_none}
 use Rattle.property_text.proofs.numbers.digit_at.Goals as goal

@@ -1,4 +1,4 @@
-use Rattle.std.proofs.Common.{◌≡◌, ◌+◌, ◌<◌, ◌≢◌, length, ap, ◌∙◌, arith, length-set, get_or-set_other, get_or-set_same, rules, below_more}
+use Rattle.std.proofs.Common.{◌+◌, ◌<◌, ◌≢◌, length, ap, ◌∙◌, arith, length-set, get_or-set_other, get_or-set_same, rules, below_more}
 use Rattle.tables.specs.Tabled.{row_at}
 use Rattle.table_chain.proofs.Lookup.{first_none, first_more, within, few, short}
 use Rattle.table_chain.proofs.questions.first_edges.Goals as goal

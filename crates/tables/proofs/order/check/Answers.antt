@@ -1,4 +1,4 @@
-use Rattle.std.proofs.Common.{◌≡◌, true, is_ok, sym, rules}
+use Rattle.std.proofs.Common.{◌≡◌, true, is_ok, sym}
 use Rattle.std.proofs.lemmas.Result.{err_from_is_err_and}
 use Rattle.tables.specs.Faults.{judged}
 use Rattle.tables.proofs.Fits.{accepted, refused}

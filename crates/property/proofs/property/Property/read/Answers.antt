@@ -1,4 +1,4 @@
-use Rattle.std.proofs.Common.{◌≡◌, Err, sym, refl, ap, ◌∙◌, arith, rules}
+use Rattle.std.proofs.Common.{Err, sym, ap, ◌∙◌}
 use Rattle.std.proofs.lemmas.Result.{err_from_is_err_and}
 use Rattle.property.proofs.Whole.{read_long}
 use Rattle.property.proofs.Stages.{refuses, opening_bad, ground_bad, until_bad, goal_bad, closing_bad, all_read}

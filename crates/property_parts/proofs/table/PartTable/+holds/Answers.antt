@@ -1,4 +1,4 @@
-use Rattle.std.proofs.Common.{◌≡◌, ◌<◌, false, arith, rules}
+use Rattle.std.proofs.Common.{false, arith}
 use Rattle.std.proofs.lemmas.Bool.{ltb-true}
 use Rattle.property_parts.proofs.Filled.{names_at, both_earlier}
 use Rattle.property_parts.proofs.Made.{made_held}

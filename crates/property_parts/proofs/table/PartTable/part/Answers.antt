@@ -1,4 +1,4 @@
-use Rattle.std.proofs.Common.{sym, refl, rules}
+use Rattle.std.proofs.Common.{sym, rules}
 use Rattle.property_parts.proofs.Filled.{held_at}
 use Rattle.property_parts.proofs.table.PartTable.part.Goals as goal
 
