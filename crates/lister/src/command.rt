@@ -1,7 +1,7 @@
 //! The commands, by their words.
 use crate::check::check_file;
 use crate::copy::copy_file;
-use crate::property::tell_property;
+use crate::property_command::tell_property;
 use crate::show::show_file;
 use std::io;
 

@@ -4,7 +4,7 @@
 mod check;
 mod command;
 mod copy;
-mod property;
+mod property_command;
 mod show;
 
 use crate::command::{Outcome, obey};

@@ -85,11 +85,11 @@ bytes_from_bit xs b k j h =
     rw e (rw q at r)
 
 -- a field whose bits are those of a value
-get_d_bits : (w v j : ℕ) → j < w → get_or (bits w v) j 0 ≡ v / 2 ^ (w - 1 - j) % 2
+get_or_bits : (w v j : ℕ) → j < w → get_or (bits w v) j 0 ≡ v / 2 ^ (w - 1 - j) % 2
 unfolding bits
-get_d_bits zero v j h = omega arith
-get_d_bits (suc w) v zero h = let e : suc w - 1 - 0 ≡ w = omega arith in rw e
-get_d_bits (suc w) v (suc j) h = let e : suc w - 1 - suc j ≡ w - 1 - j = omega arith in rw e (get_d_bits w v j (omega arith))
+get_or_bits zero v j h = omega arith
+get_or_bits (suc w) v zero h = let e : suc w - 1 - 0 ≡ w = omega arith in rw e
+get_or_bits (suc w) v (suc j) h = let e : suc w - 1 - suc j ≡ w - 1 - j = omega arith in rw e (get_or_bits w v j (omega arith))
 
 field_so_far : (bs : List ℕ) (p w v : ℕ) → v < 2 ^ w → ((j : ℕ) → j < w → bit_at bs (p + j) ≡ v / 2 ^ (w - 1 - j) % 2) → (k : ℕ) → k ≤ w → field bs p k ≡ v / 2 ^ (w - k)
 unfolding field
@@ -123,7 +123,7 @@ bits_at bs p (x ∷ xs) f low high h =
     let w = length_bits x.0 x.1 in
     let at_field : (j : ℕ) → j < x.0 → bit_at bs (p + j) ≡ x.1 / 2 ^ (x.0 - 1 - j) % 2 = λ j l.
     (let l' : j < length (bits x.0 x.1) = omega arith in
-    h j (omega arith) ∙ get_or_append_left (bits x.0 x.1) (all_bits xs) 0 j l' ∙ get_d_bits x.0 x.1 j l) in
+    h j (omega arith) ∙ get_or_append_left (bits x.0 x.1) (all_bits xs) 0 j l' ∙ get_or_bits x.0 x.1 j l) in
     let v = field_so_far bs p x.0 x.1 f.0 at_field x.0 (omega arith) in
     let one : x.1 / 2 ^ (x.0 - x.0) ≡ x.1 = whole_shift x.0 x.1 in (
       omega arith,
