@@ -1,20 +1,19 @@
 //! What can keep a file from being written.
-ghost use Rattle.std.specs.Prelude.{◌≡◌};
 ghost use Rattle.packed_writer.specs.Number.{number};
 
-#[derive(Clone, Copy, PartialEq, Eq, Debug)]
+use refusal::Fault;
+use thiserror::Error;
+
+#[derive(Clone, Copy, PartialEq, Eq, Debug, Error)]
 pub enum WriteFault {
-    /// The buffer is too short for the file.
-    BufferTooShort,
+    #[error("The buffer is too short for the file.")]
+    BufferTooShort = 30,
 }
 
-impl WriteFault {
-    /// The number under which the documents list the fault.
-    pub fn number(self) -> u32
-        ensures { result ≡ number self }
-    {
-        match self {
-            WriteFault::BufferTooShort => 30,
-        }
+impl Fault for WriteFault {
+    ghost numbered = { number };
+
+    fn number(self) -> u32 {
+        self as u32
     }
 }

@@ -2,40 +2,33 @@
 ghost use Rattle.std.specs.Prelude.{◌≡◌};
 ghost use Rattle.property_text.specs.Faults.{number_of};
 
-use refusal::Refusal;
+use refusal::{Fault, Refusal};
+use thiserror::Error;
 
-#[derive(Clone, Copy, PartialEq, Eq, Debug)]
+/// In its words the mark is the place of the refusal.
+#[derive(Clone, Copy, PartialEq, Eq, Debug, Error)]
 pub enum PropertyFault {
-    /// The text is longer than the limit.
-    TextTooLong,
-    /// The token needed, or the end, is not there.
-    TokenMissing,
-    /// A number has more than five digits, or a needless 0 in front.
-    BadNumber,
-    /// The ceiling's lower number is 0, above its limit, or less than the upper one.
-    BadCeiling,
-    /// The hop bound is above its limit.
-    TooManyHops,
-    /// A parenthesis is one too many open at once.
-    TooDeep,
-    /// A part is one too many for the table.
-    TooManyParts,
+    #[error("The text is longer than 1024 bytes; the first of those too many is marked.")]
+    TextTooLong = 11,
+    #[error("What is needed at the mark does not stand there; behind the ] nothing may stand.")]
+    TokenMissing = 12,
+    #[error("The number at the mark has more than five digits, or a needless 0 in front.")]
+    BadNumber = 13,
+    #[error("The number at the mark, the lower one of the ceiling, is 0, above 65535, or less than the upper one.")]
+    BadCeiling = 14,
+    #[error("The number at the mark, the hop bound, is above 64.")]
+    TooManyHops = 15,
+    #[error("The parenthesis at the mark is the seventeenth that is open at once; sixteen may be.")]
+    TooDeep = 16,
+    #[error("What stands at the mark is the 129th part of the property; it may have 128.")]
+    TooManyParts = 17,
 }
 
-impl PropertyFault {
-    /// The number under which the documents list the fault.
-    pub fn number(self) -> u32
-        ensures { result ≡ number_of self }
-    {
-        match self {
-            PropertyFault::TextTooLong => 11,
-            PropertyFault::TokenMissing => 12,
-            PropertyFault::BadNumber => 13,
-            PropertyFault::BadCeiling => 14,
-            PropertyFault::TooManyHops => 15,
-            PropertyFault::TooDeep => 16,
-            PropertyFault::TooManyParts => 17,
-        }
+impl Fault for PropertyFault {
+    ghost numbered = { number_of };
+
+    fn number(self) -> u32 {
+        self as u32
     }
 }
 

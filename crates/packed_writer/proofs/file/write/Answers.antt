@@ -12,7 +12,7 @@ returns-then-length-buffer g c =
 pub returns : goal.returns
 returns g c =
     let meaning = g.C.Chain.meaning c.args.chain.now in
-    let lawful = g.C.Chain.lawful c.args.chain.now in
+    let lawful = g.met.C.Chain.lawful c.args.chain.now in
     let n = c.states.ensures in
     let m = c.edges.ensures in
     let length = (16 + 36 + 27 * c.states.result + 26 * c.edges.result + 7) / 8 in

@@ -13,8 +13,8 @@ put_row-at-requires g c =
     let n = c.states-states.ensures in
     let lt : c.loop-state.state < length m.rows = omega arith in
     let r = room_row m c.loop-state.state c.loop-state.at lt c.loop-state.invariant.1 in
-    let few = (g.C.Chain.lawful c.args.chain.now).few in
-    let sparse = (g.C.Chain.lawful c.args.chain.now).sparse in
+    let few = (g.met.C.Chain.lawful c.args.chain.now).few in
+    let sparse = (g.met.C.Chain.lawful c.args.chain.now).sparse in
     record { state_within = lt; within = omega arith; near = omega arith }
 
 pub loop-state-preserved : goal.loop-state-preserved
