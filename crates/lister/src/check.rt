@@ -1,12 +1,13 @@
 //! `lister check FILE`
-use crate::command::Outcome;
+use crate::command_error::CommandError;
 use chain::Chain;
 use inputs::accepted_file;
 use packed_chain::PackedChain;
 use std::io;
+use std::rt::Files;
 
 /// The line that says how large a chain is.
-pub(crate) fn tell_size(rt: &HostRuntime, chain: &PackedChain) -> io::Result<()> {
+pub(crate) fn tell_size(rt: &impl Print, chain: &PackedChain) -> io::Result<()> {
     let states = chain.states();
     let edges = chain.edges();
     let denominator = chain.denominator();
@@ -14,15 +15,16 @@ pub(crate) fn tell_size(rt: &HostRuntime, chain: &PackedChain) -> io::Result<()>
     println!(rt; "CHAIN states {states} edges {edges} denominator {denominator} start {start}")
 }
 
-pub(crate) fn check_file(rt: &HostRuntime, path: &str) -> io::Result<Outcome> {
-    let Some(bytes) = accepted_file(rt, path)? else {
-        return Ok(Outcome::Refused);
-    };
-    let chain = PackedChain::new(bytes.as_slice());
+pub(crate) fn check_file<'a, R: Print + Files + AllocGlobal>(
+    rt: &R,
+    path: &'a str,
+) -> Result<(), CommandError<'a>> {
+    let bytes = accepted_file(rt, path)?;
+    let chain = PackedChain::new(&bytes);
     tell_size(rt, &chain)?;
     let denominator = chain.denominator();
     println!(rt;
         "The file holds a lawful chain; in each of its rows the weights add up to {denominator}."
     )?;
-    Ok(Outcome::Done)
+    Ok(())
 }

@@ -1,11 +1,13 @@
 //! The commands, by their words.
 use crate::check::check_file;
+use crate::command_error::CommandError;
 use crate::copy::copy_file;
 use crate::property_command::tell_property;
 use crate::show::show_file;
 use std::io;
+use std::rt::Files;
 
-const USAGE: &str = "\
+pub(crate) const USAGE: &str = "\
 lister: counterexamples for Markov chains with whole-number weights
 
   lister check FILE   Is FILE the packed file of a chain? If not, what is wrong with it, and where?
@@ -22,33 +24,22 @@ lister: counterexamples for Markov chains with whole-number weights
 The first line of an answer is for machines, the lines after it are for people.
 The status is 0 where a command was carried out, and 1 where it was refused.";
 
-/// Whether a command was carried out.
-#[derive(Clone, Copy)]
-pub(crate) enum Outcome {
-    Done,
-    Refused,
-}
-
-fn help(rt: &HostRuntime) -> io::Result<Outcome> {
-    println!(rt; "{USAGE}")?;
-    Ok(Outcome::Done)
-}
-
-fn wrong_usage(rt: &HostRuntime) -> io::Result<Outcome> {
-    eprintln!(rt; "lister: these words are no command; this is how it is used:")?;
-    println!(rt; "{USAGE}")?;
-    Ok(Outcome::Refused)
+fn help(rt: &impl Print) -> io::Result<()> {
+    println!(rt; "{USAGE}")
 }
 
 /// Carries out the command that the words after the program's name give.
-pub(crate) fn obey(rt: &HostRuntime, words: &[String]) -> io::Result<Outcome> {
+pub(crate) fn obey<'a, R: Print + Files + AllocGlobal>(
+    rt: &R,
+    words: &'a [String],
+) -> Result<(), CommandError<'a>> {
     match words {
-        [] => help(rt),
-        [verb] if verb.as_str() == "help" => help(rt),
+        [] => Ok(help(rt)?),
+        [verb] if verb.as_str() == "help" => Ok(help(rt)?),
         [verb, path] if verb.as_str() == "check" => check_file(rt, path.as_str()),
         [verb, path] if verb.as_str() == "show" => show_file(rt, path.as_str()),
         [verb, text] if verb.as_str() == "property" => tell_property(rt, text.as_str()),
         [verb, from, to] if verb.as_str() == "copy" => copy_file(rt, from.as_str(), to.as_str()),
-        _ => wrong_usage(rt),
+        _ => Err(CommandError::WrongUsage),
     }
 }

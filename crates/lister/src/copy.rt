@@ -1,48 +1,35 @@
 //! `lister copy FROM TO`
-use crate::command::Outcome;
+use crate::command_error::CommandError;
 use inputs::accepted_file;
 use packed_chain::PackedChain;
 use packed_file::DECIDING_BYTES;
 use packed_writer::write;
+use std::alloc::Global;
+use std::rt::Files;
 use std::{fs, io};
 
-fn tell_written(rt: &HostRuntime, written: &[u8], same: bool) -> io::Result<Outcome> {
+/// The file of the chain that `bytes` hold.
+fn written_file<'a>(alloc: Global, bytes: &[u8]) -> Result<Vec<u8>, CommandError<'a>> {
+    let mut buffer = vec![in alloc; 0u8; DECIDING_BYTES].map_err(io::Error::from)?;
+    let length = write(&PackedChain::new(bytes), &mut buffer)?;
+    buffer.truncate(length);
+    Ok(buffer)
+}
+
+pub(crate) fn copy_file<'a, R: Print + Files + AllocGlobal>(
+    rt: &R,
+    from: &'a str,
+    to: &'a str,
+) -> Result<(), CommandError<'a>> {
+    let bytes = accepted_file(rt, from)?;
+    let written = written_file(rt.alloc(), &bytes)?;
+    fs::write(rt, to, &written).map_err(|cause| CommandError::Unwritten { path: to, cause })?;
     let count = written.len();
     println!(rt; "WROTE bytes {count}")?;
-    let words = if same {
-        "It is the same file to the byte, as the one file of its chain."
+    if written == bytes {
+        println!(rt; "It is the same file to the byte, as the one file of its chain.")?;
     } else {
-        "It is not the same file to the byte."
-    };
-    println!(rt; "{words}")?;
-    Ok(Outcome::Done)
-}
-
-/// Writes the file of the chain that `bytes` hold to a path.
-fn write_copy(rt: &HostRuntime, bytes: &[u8], path: &str) -> io::Result<Outcome> {
-    let chain = PackedChain::new(bytes);
-    let mut buffer = vec![in rt.alloc(); 0u8; DECIDING_BYTES]?;
-    match write(&chain, buffer.as_mut_slice()) {
-        Ok(length) => {
-            buffer.truncate(length);
-            let written = buffer.as_slice();
-            if let Err(e) = fs::write(rt, path, written) {
-                eprintln!(rt; "lister: the file {path} cannot be written: {e}")?;
-                return Ok(Outcome::Refused);
-            }
-            tell_written(rt, written, written == bytes)
-        }
-        Err(refusal) => {
-            let number = refusal.fault.number();
-            println!(rt; "REFUSED WRITER {number} 0")?;
-            Ok(Outcome::Refused)
-        }
+        println!(rt; "It is not the same file to the byte.")?;
     }
-}
-
-pub(crate) fn copy_file(rt: &HostRuntime, from: &str, to: &str) -> io::Result<Outcome> {
-    match accepted_file(rt, from)? {
-        Some(bytes) => write_copy(rt, bytes.as_slice(), to),
-        None => Ok(Outcome::Refused),
-    }
+    Ok(())
 }

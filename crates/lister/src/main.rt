@@ -3,24 +3,30 @@
 
 mod check;
 mod command;
+mod command_error;
 mod copy;
 mod property_command;
 mod show;
 
-use crate::command::{Outcome, obey};
+use crate::command::obey;
 use std::process::ExitCode;
 use std::{env, io};
 
-fn run(rt: &HostRuntime) -> io::Result<Outcome> {
+/// Carries out the command that the arguments give; where it fails, what is wrong is told.
+fn run(rt: &HostRuntime) -> io::Result<ExitCode> {
     let words: Vec<String> = env::args(rt)?.skip(1).collect(rt.alloc())?;
-    obey(rt, words.as_slice())
+    match obey(rt, &words) {
+        Ok(()) => Ok(ExitCode::SUCCESS),
+        Err(error) => {
+            error.tell(rt)?;
+            Ok(ExitCode::FAILURE)
+        }
+    }
 }
 
-/// Fails where a command was refused or could not be carried out; what was wrong has been told.
 fn main(rt: HostRuntime) -> ExitCode {
     match run(&rt) {
-        Ok(Outcome::Done) => ExitCode::SUCCESS,
-        Ok(Outcome::Refused) => ExitCode::FAILURE,
+        Ok(code) => code,
         Err(e) => {
             let _ = eprintln!(rt; "lister: {e}");
             ExitCode::FAILURE

@@ -1,13 +1,10 @@
 //! `lister property TEXT`
-use crate::command::Outcome;
+use crate::command_error::CommandError;
 use inputs::accepted_property;
 use property::Ceiling;
-use std::io;
 
-pub(crate) fn tell_property(rt: &HostRuntime, text: &str) -> io::Result<Outcome> {
-    let Some(property) = accepted_property(rt, text)? else {
-        return Ok(Outcome::Refused);
-    };
+pub(crate) fn tell_property<'a>(rt: &impl Print, text: &'a str) -> Result<(), CommandError<'a>> {
+    let property = accepted_property(text)?;
     let Ceiling { upper, lower } = property.ceiling();
     let hops = property.hop_bound();
     let parts = property.part_count();
@@ -15,5 +12,5 @@ pub(crate) fn tell_property(rt: &HostRuntime, text: &str) -> io::Result<Outcome>
     println!(rt;
         "Of all runs at most {upper} in {lower} may reach the goal within {hops} moves through the ground."
     )?;
-    Ok(Outcome::Done)
+    Ok(())
 }
