@@ -15,8 +15,8 @@ pub(crate) fn tell_size(rt: &impl Print, chain: &PackedChain) -> io::Result<()> 
     println!(rt; "CHAIN states {states} edges {edges} denominator {denominator} start {start}")
 }
 
-pub(crate) fn check_file<'a, R: Print + Files + AllocGlobal>(
-    rt: &R,
+pub(crate) fn check_file<'a>(
+    rt: &(impl Print + Files + AllocGlobal),
     path: &'a str,
 ) -> Result<(), CommandError<'a>> {
     let bytes = accepted_file(rt, path)?;

@@ -29,8 +29,8 @@ fn help(rt: &impl Print) -> io::Result<()> {
 }
 
 /// Carries out the command that the words after the program's name give.
-pub(crate) fn obey<'a, R: Print + Files + AllocGlobal>(
-    rt: &R,
+pub(crate) fn obey<'a>(
+    rt: &(impl Print + Files + AllocGlobal),
     words: &'a [String],
 ) -> Result<(), CommandError<'a>> {
     match words {

@@ -9,15 +9,15 @@ use std::rt::Files;
 use std::{fs, io};
 
 /// The file of the chain that `bytes` hold.
-fn written_file<'a>(alloc: Global, bytes: &[u8]) -> Result<Vec<u8>, CommandError<'a>> {
+fn written_file(alloc: Global, bytes: &[u8]) -> Result<Vec<u8>, CommandError<'static>> {
     let mut buffer = vec![in alloc; 0u8; DECIDING_BYTES].map_err(io::Error::from)?;
     let length = write(&PackedChain::new(bytes), &mut buffer)?;
     buffer.truncate(length);
     Ok(buffer)
 }
 
-pub(crate) fn copy_file<'a, R: Print + Files + AllocGlobal>(
-    rt: &R,
+pub(crate) fn copy_file<'a>(
+    rt: &(impl Print + Files + AllocGlobal),
     from: &'a str,
     to: &'a str,
 ) -> Result<(), CommandError<'a>> {

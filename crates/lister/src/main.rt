@@ -10,10 +10,11 @@ mod show;
 
 use crate::command::obey;
 use std::process::ExitCode;
+use std::rt::{Env, Files};
 use std::{env, io};
 
 /// Carries out the command that the arguments give; where it fails, what is wrong is told.
-fn run(rt: &HostRuntime) -> io::Result<ExitCode> {
+fn run(rt: &(impl Env + Files + Print + Eprint + AllocGlobal)) -> io::Result<ExitCode> {
     let words: Vec<String> = env::args(rt)?.skip(1).collect(rt.alloc())?;
     match obey(rt, &words) {
         Ok(()) => Ok(ExitCode::SUCCESS),

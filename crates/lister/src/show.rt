@@ -43,8 +43,8 @@ impl fmt::Display for Edges<'_> {
     }
 }
 
-pub(crate) fn show_file<'a, R: Print + Files + AllocGlobal>(
-    rt: &R,
+pub(crate) fn show_file<'a>(
+    rt: &(impl Print + Files + AllocGlobal),
     path: &'a str,
 ) -> Result<(), CommandError<'a>> {
     let bytes = accepted_file(rt, path)?;
