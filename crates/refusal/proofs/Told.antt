@@ -69,3 +69,7 @@ module _ {F : Type 0} where
           let q = k r in
           record { before = x ∷ q.before; broken = q.broken; after = q.after; order = ap (λ l. x ∷ l) q.order; kept = (e, q.kept); unmet = q.unmet; same = q.same }
       split false e r k = record { before = []; broken = x; after = xs; order = refl; kept = tt; unmet = e; same = cc }
+
+  -- later demands, and the value, may rest on the value of the earlier ones
+  pub told_through : {A B : Type 0} (xs : List (Demand F)) (ys : A → List (Demand F)) (b : A → B) (a a' : A) → Ok a' ≡ told xs a → told (xs ++ ys a) (b a) ≡ told (ys a') (b a')
+  told_through xs ys b a a' h = rw (told_value xs a a' h) (told_on xs (ys a) a a' (b a) h)
