@@ -1,97 +1,106 @@
 -- Where the rows and edges of tables without a fault stand.
-use Rattle.std.proofs.Common.{◌≡◌, ℕ, zero, suc, ◌+◌, ◌%◌, ◌^◌, ◌<◌, ◌≤◌, List, length, Some, None, Option, sym, refl, add-one, arith}
-use Rattle.std.specs.List.{slice_get}
-use Rattle.std.proofs.lemmas.Option.{slice_get_past}
-use Rattle.refusal.specs.Demands.{Met}
-use Rattle.refusal.proofs.Told.{ok_met, met_left, met_right}
-use Rattle.chain.specs.Limits.{most_states, most_edges}
+use Rattle.std.proofs.Common.{◌≡◌, ℕ, zero, suc, ◌+◌, ◌%◌, ◌^◌, ◌<◌, ◌≤◌, List, [], ◌∷◌, length, drop, get_or, Some, None, sym, refl, ap, ◌∙◌, arith}
+use Rattle.std.specs.List.{slice_get, sum_by}
+use Rattle.std.specs.Slice.{IsItemAt}
+use denote.Ref.{Bor}
+use Rattle.std.specs.Prelude.{slice_index_or}
+use Rattle.std.proofs.lemmas.List.{drop-drop, get_or-drop}
+use Rattle.std.proofs.lemmas.List.Sums.{sum_by-cons}
+use Rattle.std.proofs.lemmas.Option.{none-some, same_Some, slice_get_past, slice_get_read}
+use Rattle.chain.specs.Limits.{most_edges, letters}
+use Rattle.chain.specs.Markov.{edges_in}
 use Rattle.chain.specs.Questions.{propositions_of, degree_of, edge_of}
 use Rattle.tables.specs.declared.tables.TableRow.{TableRow}
 use Rattle.tables.specs.declared.tables.TableEdge.{TableEdge}
-use Rattle.tables.specs.Tabled.{edge_at, row_at, edges_from, row_of, rows_from, tabled}
-use Rattle.tables.specs.Faults.{edges_demands, row_demands, rows_demands, demands, Faultless}
-use Rattle.table_chain.specs.Places.{first_edge}
-use Rattle.tables.proofs.Fits.{length_edges, length_rows, edges_inside, faultless_lawful, faultless_whole}
+use Rattle.tables.specs.declared.tables.Tables.{Tables}
+use Rattle.tables.specs.Tabled.{next_edges, row_of, rows_of, tabled}
+use Rattle.tables.specs.Faults.{Faultless}
+use Rattle.tables.proofs.Fits.{length_edges, length_rows, faultless_lawful, faultless_whole}
+use Rattle.table_chain.specs.Places.{first_edges}
 
-pub first_none : (rs : List TableRow) → 0 ≡ first_edge rs 0
-unfolding first_edge
-first_none rs = refl
+abbrev pub counts : List TableRow → ℕ
+counts rs = sum_by (λ r. r.count) rs
 
-pub first_more : (rs : List TableRow) (s : ℕ) → first_edge rs s + (row_at rs s).count ≡ first_edge rs (s + 1)
-unfolding first_edge
-first_more rs s = rw (add-one s) refl
+edges_counted : (rs : List TableRow) (es : List TableEdge) → edges_in (rows_of rs es) ≡ counts rs
+unfolding rows_of
+edges_counted [] es = refl
+edges_counted (r ∷ rs) es = rw (length_edges r.count es, edges_counted rs (drop r.count es)) (sym (sum_by-cons (λ r. r.count) r rs))
 
-nth_rows : (rs : List TableRow) (es : List TableEdge) (k s j : ℕ) → j < k → slice_get (rows_from rs es s (first_edge rs s) k) j ≡ Some (row_of (row_at rs (s + j)) es (first_edge rs (s + j)))
-unfolding rows_from
-nth_rows rs es zero s j h = absurd (omega arith)
-nth_rows rs es (suc k) s zero h = let e : s + 0 ≡ s = omega arith in rw e
-nth_rows rs es (suc k) s (suc j) h =
-    let e : s + 1 + j ≡ s + suc j = omega arith in
-    rw (first_more rs s) (rw e at (nth_rows rs es k (s + 1) j (omega arith)))
+pub length_firsts : (i : ℕ) (rs : List TableRow) → length (first_edges i rs) ≡ length rs
+unfolding first_edges
+length_firsts i [] = refl
+length_firsts i (r ∷ rs) = ap suc (length_firsts (i + r.count) rs)
 
-nth_edges : (es : List TableEdge) (k i j : ℕ) → j < k → slice_get (edges_from es i k) j ≡ Some ((edge_at es (i + j)).target, (edge_at es (i + j)).weight)
-unfolding edges_from
-nth_edges es zero i j h = absurd (omega arith)
-nth_edges es (suc k) i zero h = let e : i + 0 ≡ i = omega arith in rw e
-nth_edges es (suc k) i (suc j) h = let e : i + 1 + j ≡ i + suc j = omega arith in rw e at (nth_edges es k (i + 1) j (omega arith))
+module _ (t : Tables) (faultless : Faultless t) where
+  pub whole : counts t.rows.now ≡ length t.edges.now
+  whole = sym (edges_counted t.rows.now t.edges.now) ∙ faultless_whole t faultless
 
-rows_within : (rs : List TableRow) (es : List TableEdge) (n d k s j : ℕ) → Met (rows_demands rs es n d k s (first_edge rs s)) → first_edge rs s ≤ length es → j < k
-    → first_edge rs (s + j) + (row_at rs (s + j)).count ≤ length es
-unfolding rows_demands
-rows_within rs es n d zero s j h l lt = absurd (omega arith)
-rows_within rs es n d (suc k) s zero h l lt =
-    let e : s + 0 ≡ s = omega arith in
-    let here = met_left (row_demands es n d (row_at rs s) s (first_edge rs s)) _ h in
-    rw e (edges_inside es n s (row_at rs s).count (first_edge rs s) 0 l (met_left (edges_demands es n s (row_at rs s).count (first_edge rs s) 0) _ here.1))
-rows_within rs es n d (suc k) s (suc j) h l lt =
-    let e : s + 1 + j ≡ s + suc j = omega arith in
-    let here = met_left (row_demands es n d (row_at rs s) s (first_edge rs s)) _ h in
-    let inside = edges_inside es n s (row_at rs s).count (first_edge rs s) 0 l (met_left (edges_demands es n s (row_at rs s).count (first_edge rs s) 0) _ here.1) in
-    let rest = rw (first_more rs s) at (met_right (row_demands es n d (row_at rs s) s (first_edge rs s)) _ h) in
-    rw e at (rows_within rs es n d k (s + 1) j rest (rw (first_more rs s) at inside) (omega arith))
+  pub short : length t.edges.now ≤ most_edges
+  short = let s = (faultless_lawful t faultless).sparse in let w = faultless_whole t faultless in omega arith
 
-module _ (rs : List TableRow) (es : List TableEdge) (start d : ℕ) (faultless : Faultless rs es start d) where
-  pub within : (s : ℕ) → s < length rs → first_edge rs s + (row_at rs s).count ≤ length es
-  unfolding first_edge
-  within s l =
-      let met = ok_met (demands rs es start d) (tt {0}) faultless in
-      let e : 0 + s ≡ s = omega arith in
-      rw e at (rows_within rs es (length rs) d (length rs) 0 s met.1.1.1 (omega arith) l)
+  pub within : (s : ℕ) (r : TableRow) → slice_get t.rows.now s ≡ Some r → get_or (first_edges 0 t.rows.now) s 0 + r.count ≤ length t.edges.now
+  unfolding first_edges
+  within s r h = let w = whole in let b = bounded t.rows.now 0 s r h in omega arith
+    where
+      bounded : (rs : List TableRow) (i s : ℕ) (r : TableRow) → slice_get rs s ≡ Some r → get_or (first_edges i rs) s 0 + r.count ≤ i + counts rs
+      bounded [] i s r h = absurd (none-some r h)
+      bounded (x ∷ rs) i zero r h = let e = same_Some x r h in let c = sum_by-cons (λ r. r.count) x rs in rw (← e) (omega arith)
+      bounded (x ∷ rs) i (suc s) r h = let b = bounded rs (i + x.count) s r h in let c = sum_by-cons (λ r. r.count) x rs in omega arith
 
-  pub few : length rs ≤ most_states
-  few = rw (length_rows rs es 0 0 (length rs)) at (faultless_lawful rs es start d faultless).few
+pub row_read : (rs : List TableRow) (s : ℕ) (r : Bor TableRow) → IsItemAt rs s (Some r) → slice_get rs s ≡ Some r.now
+row_read rs s r h = slice_get_read rs (length rs) s r.now refl h.3.0 h.1
 
-  pub short : length es ≤ most_edges
-  short = let s = (faultless_lawful rs es start d faultless).sparse in let w = faultless_whole rs es start d faultless in omega arith
+nth_row : (rs : List TableRow) (es : List TableEdge) (i s : ℕ) (r : TableRow) → slice_get rs s ≡ Some r
+    → slice_get (rows_of rs (drop i es)) s ≡ Some (row_of r (drop (get_or (first_edges i rs) s 0) es))
+unfolding rows_of first_edges
+nth_row [] es i s r h = absurd (none-some r h)
+nth_row (x ∷ rs) es i zero r h = rw (same_Some x r h)
+nth_row (x ∷ rs) es i (suc s) r h = rw (drop-drop x.count i es) (nth_row rs es (i + x.count) s r h)
 
-  -- what the questions answer
-  row_found : (s : ℕ) → s < length rs → slice_get (tabled rs es start d).rows s ≡ Some (row_of (row_at rs s) es (first_edge rs s))
-  unfolding first_edge
-  row_found s l = let e : 0 + s ≡ s = omega arith in rw e at (nth_rows rs es (length rs) 0 s l)
+nth_edge : (k : ℕ) (es : List TableEdge) (j : ℕ) → j < k
+    → (let e = slice_index_or es j (record { target = 0; weight = 0 }) in slice_get (next_edges k es) j ≡ Some (e.target, e.weight))
+unfolding next_edges
+nth_edge zero es j h = absurd (omega arith)
+nth_edge (suc k) [] zero h = refl
+nth_edge (suc k) (e ∷ es) zero h = refl
+nth_edge (suc k) [] (suc j) h = nth_edge k [] j (omega arith)
+nth_edge (suc k) (e ∷ es) (suc j) h = nth_edge k es j (omega arith)
 
-  row_past : (s : ℕ) → length rs ≤ s → slice_get (tabled rs es start d).rows s ≡ None
-  row_past s l = slice_get_past (rows_from rs es 0 0 (length rs)) s (rw (length_rows rs es 0 0 (length rs)) l)
+-- what the questions answer past the last row
+module _ (t : Tables) (s : ℕ) (past : length t.rows.now ≤ s) where
+  no_row : slice_get (rows_of t.rows.now t.edges.now) s ≡ None
+  no_row = slice_get_past (rows_of t.rows.now t.edges.now) s (rw (length_rows t.rows.now t.edges.now) past)
 
-  pub propositions_past : (s : ℕ) → length rs ≤ s → None ≡ propositions_of (tabled rs es start d) s
-  propositions_past s l = rw (row_past s l)
+  pub propositions_past : propositions_of (tabled t) s ≡ None
+  propositions_past = rw no_row
 
-  pub propositions_found : (s : ℕ) → s < length rs → Some ((row_at rs s).propositions % 2 ^ 16) ≡ propositions_of (tabled rs es start d) s
-  propositions_found s l = rw (row_found s l)
+  pub degree_past : degree_of (tabled t) s ≡ None
+  degree_past = rw no_row
 
-  pub degree_past : (s : ℕ) → length rs ≤ s → None ≡ degree_of (tabled rs es start d) s
-  degree_past s l = rw (row_past s l)
+  pub edge_no_row : (k : ℕ) → edge_of (tabled t) s k ≡ None
+  edge_no_row k = rw no_row
 
-  pub degree_found : (s : ℕ) → s < length rs → Some (row_at rs s).count ≡ degree_of (tabled rs es start d) s
-  degree_found s l = rw (row_found s l, length_edges es (first_edge rs s) (row_at rs s).count)
+-- and of a row
+module _ (t : Tables) (s : ℕ) (r : TableRow) (found : slice_get t.rows.now s ≡ Some r) where
+  here : slice_get (rows_of t.rows.now t.edges.now) s ≡ Some (row_of r (drop (get_or (first_edges 0 t.rows.now) s 0) t.edges.now))
+  here = nth_row t.rows.now t.edges.now 0 s r found
 
-  pub edge_no_row : (s k : ℕ) → length rs ≤ s → None ≡ edge_of (tabled rs es start d) s k
-  edge_no_row s k l = rw (row_past s l)
+  pub propositions_found : propositions_of (tabled t) s ≡ Some (r.propositions % 2 ^ letters)
+  propositions_found = rw here
 
-  pub edge_past : (s k : ℕ) → s < length rs → (row_at rs s).count ≤ k → None ≡ edge_of (tabled rs es start d) s k
-  edge_past s k l p =
-      let edges = edges_from es (first_edge rs s) (row_at rs s).count in
-      rw (row_found s l) (sym (slice_get_past edges k (rw (length_edges es (first_edge rs s) (row_at rs s).count) p)))
+  pub degree_found : degree_of (tabled t) s ≡ Some r.count
+  degree_found = rw (here, length_edges r.count (drop (get_or (first_edges 0 t.rows.now) s 0) t.edges.now))
 
-  pub edge_found : (s k i : ℕ) → s < length rs → k < (row_at rs s).count → i ≡ first_edge rs s
-      → ◌≡◌ {A = Option (ℕ × ℕ)} (Some ((edge_at es (i + k)).target, (edge_at es (i + k)).weight)) (edge_of (tabled rs es start d) s k)
-  edge_found s k i l lt e = rw (row_found s l, e) (sym (nth_edges es (row_at rs s).count (first_edge rs s) k lt))
+  pub edge_past : (k : ℕ) → r.count ≤ k → edge_of (tabled t) s k ≡ None
+  edge_past k h =
+      let left = drop (get_or (first_edges 0 t.rows.now) s 0) t.edges.now in
+      rw here (slice_get_past (next_edges r.count left) k (rw (length_edges r.count left) h))
+
+  module _ (firsts : List ℕ) (placed : firsts ≡ first_edges 0 t.rows.now) (k : ℕ) (there : k < r.count) where
+    pub edge_inside : Faultless t → get_or firsts s 0 + k < length t.edges.now
+    edge_inside f = let w = within t f s r found in rw placed (omega arith)
+
+    pub edge_found : let e = slice_index_or t.edges.now (get_or firsts s 0 + k) (record { target = 0; weight = 0 }) in edge_of (tabled t) s k ≡ Some (e.target, e.weight)
+    edge_found =
+        let first = get_or (first_edges 0 t.rows.now) s 0 in
+        rw (placed, here, ← get_or-drop first t.edges.now k (record { target = 0; weight = 0 })) (nth_edge r.count (drop first t.edges.now) k there)

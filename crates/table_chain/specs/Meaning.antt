@@ -4,4 +4,4 @@ use Rattle.table_chain.specs.declared.table_chain.TableChain.{TableChain}
 use Rattle.tables.specs.Tabled.{tabled}
 
 abbrev pub meaning_of : TableChain → Markov
-meaning_of c = tabled c.rows.now c.edges.now c.start c.denominator
+meaning_of c = tabled c.tables

@@ -1,8 +1,8 @@
--- Where the edges of a state begin in the second table.
-use Rattle.std.specs.Prelude.{ℕ, zero, suc, ◌+◌, List}
+-- Where the edges of each state begin in the second table.
+use Rattle.std.specs.Prelude.{ℕ, ◌+◌, List, [], ◌∷◌}
 use Rattle.tables.specs.declared.tables.TableRow.{TableRow}
-use Rattle.tables.specs.Tabled.{row_at}
 
-unfoldable pub first_edge : List TableRow → ℕ → ℕ
-first_edge rs zero = 0
-first_edge rs (suc s) = first_edge rs s + (row_at rs s).count
+-- the places of some rows, the first of which begins at the place i
+unfoldable pub first_edges : ℕ → List TableRow → List ℕ
+first_edges i [] = []
+first_edges i (r ∷ rs) = i ∷ first_edges (i + r.count) rs

@@ -1,7 +1,8 @@
 -- Tables break no demand exactly where they write out a lawful chain and no further edge.
-use Rattle.std.proofs.Common.{◌≡◌, ℕ, zero, suc, ◌+◌, ◌≤◌, eqb, ltb, leb, List, [], ◌∷◌, length, Ok, Err, sym, refl, ap, ◌∙◌, mod-lt, arith, pow_pos}
+use Rattle.std.proofs.Common.{◌≡◌, ℕ, zero, suc, ◌+◌, ◌≤◌, eqb, ltb, leb, true, is_ok, List, [], ◌∷◌, length, drop, Ok, Err, Result, sym, refl, ap, ◌∙◌, mod-lt, arith, pow_pos}
 use Rattle.std.specs.List.{AllByRecursion}
 use Rattle.std.proofs.lemmas.Bool.{and_parts, and_from, leb-true, ltb-true, eqb-true, le-leb, lt-ltb, eq-eqb}
+use Rattle.std.proofs.lemmas.List.{length-drop}
 use Rattle.refusal.specs.declared.Refusal.{Refusal}
 use Rattle.refusal.specs.Demands.{demand, Met}
 use Rattle.refusal.proofs.Told.{met_append, met_left, met_right, met_told, ok_met, told_first, ok_err}
@@ -10,147 +11,147 @@ use Rattle.chain.specs.Markov.{Rising, LawfulRow, Lawful, weight_sum, edges_in}
 use Rattle.chain.specs.Questions.{edge_total}
 use Rattle.tables.specs.declared.tables.TableRow.{TableRow}
 use Rattle.tables.specs.declared.tables.TableEdge.{TableEdge}
+use Rattle.tables.specs.declared.tables.Tables.{Tables}
 use Rattle.tables.specs.declared.fault.TableFault.{TableFault}
 use Rattle.tables.specs.declared.fault.TableFault.TheVariants.{WrongSum}
-use Rattle.tables.specs.Tabled.{edge_at, row_at, edges_from, row_of, rows_from, tabled}
+use Rattle.tables.specs.Tabled.{next_edge, next_edges, row_of, rows_of, tabled}
 use Rattle.tables.specs.Faults.{Demands, edges_demands, row_demands, rows_demands, demands, judged, Faultless}
 use Rattle.tables.specs.Judgement.{Judges}
 
-pub length_edges : (es : List TableEdge) (i k : ℕ) → length (edges_from es i k) ≡ k
-unfolding edges_from
-length_edges es i zero = refl
-length_edges es i (suc k) = ap suc (length_edges es (i + 1) k)
+pub length_edges : (k : ℕ) (es : List TableEdge) → length (next_edges k es) ≡ k
+unfolding next_edges
+length_edges zero es = refl
+length_edges (suc k) es = ap suc (length_edges k (drop 1 es))
 
-pub length_rows : (rs : List TableRow) (es : List TableEdge) (s i k : ℕ) → length (rows_from rs es s i k) ≡ k
-unfolding rows_from
-length_rows rs es s i zero = refl
-length_rows rs es s i (suc k) = ap suc (length_rows rs es (s + 1) (i + (row_at rs s).count) k)
+pub length_rows : (rs : List TableRow) (es : List TableEdge) → length (rows_of rs es) ≡ length rs
+unfolding rows_of
+length_rows [] es = refl
+length_rows (r ∷ rs) es = ap suc (length_rows rs (drop r.count es))
 
-module _ (es : List TableEdge) (n s : ℕ) where
-  edges_rise : (k i low : ℕ) → Met (edges_demands es n s k i low) → Rising n low (edges_from es i k)
-  unfolding edges_demands edges_from
-  edges_rise zero i low h = tt
-  edges_rise (suc k) i low h =
-      let t = and_parts (leb low (edge_at es i).target) (ltb (edge_at es i).target n) h.1.0 in
-      (leb-true low _ t.0, ltb-true _ n t.1, leb-true 1 _ h.1.1.0, edges_rise k (i + 1) ((edge_at es i).target + 1) h.1.1.1)
+module _ (t : Tables) (s : ℕ) where
+  edges_rise : (k : ℕ) (es : List TableEdge) (low : ℕ) → Met (edges_demands t s k es low) → Rising (length t.rows.now) low (next_edges k es)
+  unfolding edges_demands next_edges
+  edges_rise zero es low h = tt
+  edges_rise (suc k) es low h =
+      let e = next_edge es in
+      let target = and_parts (leb low e.target) (ltb e.target (length t.rows.now)) h.1.0 in
+      (leb-true low _ target.0, ltb-true _ _ target.1, leb-true 1 _ h.1.1.0, edges_rise k (drop 1 es) (e.target + 1) h.1.1.1)
 
-  pub edges_inside : (k i low : ℕ) → i ≤ length es → Met (edges_demands es n s k i low) → i + k ≤ length es
+  edges_inside : (k : ℕ) (es : List TableEdge) (low : ℕ) → Met (edges_demands t s k es low) → k ≤ length es
   unfolding edges_demands
-  edges_inside zero i low l h = omega arith
-  edges_inside (suc k) i low l h = let lt = ltb-true i (length es) h.0 in let r = edges_inside k (i + 1) ((edge_at es i).target + 1) (omega arith) h.1.1.1 in omega arith
+  edges_inside zero es low h = omega arith
+  edges_inside (suc k) es low h =
+      let some = ltb-true 0 (length es) h.0 in
+      let rest = edges_inside k (drop 1 es) ((next_edge es).target + 1) h.1.1.1 in
+      let d = length-drop 1 es in
+      omega arith
 
-  edges_met : (k i low : ℕ) → i + k ≤ length es → Rising n low (edges_from es i k) → Met (edges_demands es n s k i low)
-  unfolding edges_demands edges_from
-  edges_met zero i low l r = tt
-  edges_met (suc k) i low l r = (
-    lt-ltb i (length es) (omega arith),
-    (
-      and_from (leb low (edge_at es i).target) (ltb (edge_at es i).target n) (le-leb _ _ r.0) (lt-ltb _ _ r.1),
-      (le-leb 1 _ r.2, edges_met k (i + 1) ((edge_at es i).target + 1) (omega arith) r.3),
-    ),
-  )
+  edges_met : (k : ℕ) (es : List TableEdge) (low : ℕ) → k ≤ length es → Rising (length t.rows.now) low (next_edges k es) → Met (edges_demands t s k es low)
+  unfolding edges_demands next_edges
+  edges_met zero es low l r = tt
+  edges_met (suc k) es low l r =
+      let e = next_edge es in
+      let d = length-drop 1 es in (
+        lt-ltb 0 (length es) (omega arith),
+        (
+          and_from (leb low e.target) (ltb e.target (length t.rows.now)) (le-leb _ _ r.0) (lt-ltb _ _ r.1),
+          (le-leb 1 _ r.2, edges_met k (drop 1 es) (e.target + 1) (omega arith) r.3),
+        ),
+      )
 
-module _ (rs : List TableRow) (es : List TableEdge) (n d : ℕ) where
-  row_lawful : (r : TableRow) (s m : ℕ) → Met (row_demands es n d r s m) → LawfulRow n d (row_of r es m)
-  row_lawful r s m h =
-      let edges = edges_demands es n s r.count m 0 in
-      let last : Demands = demand (eqb (weight_sum (edges_from es m r.count)) d) WrongSum s ∷ [] in
+module _ (t : Tables) where
+  row_lawful : (s : ℕ) (r : TableRow) (m : ℕ) (es : List TableEdge) → Met (row_demands t s r m es) → LawfulRow (length t.rows.now) t.denominator (row_of r es)
+  row_lawful s r m es h =
+      let edges = edges_demands t s r.count es 0 in
+      let last : Demands = demand (eqb (weight_sum (next_edges r.count es)) t.denominator) WrongSum s ∷ [] in
       record {
         lettered = mod-lt r.propositions (pow_pos letters);
-        rising = edges_rise es n s r.count m 0 (met_left edges last h.1);
-        whole = eqb-true _ d (met_right edges last h.1).0;
+        rising = edges_rise t s r.count es 0 (met_left edges last h.1);
+        whole = eqb-true _ t.denominator (met_right edges last h.1).0;
       }
 
-  rows_lawful : (k s m : ℕ) → Met (rows_demands rs es n d k s m) → AllByRecursion (LawfulRow n d) (rows_from rs es s m k)
-  unfolding rows_demands rows_from
-  rows_lawful zero s m h = tt
-  rows_lawful (suc k) s m h = (
-    row_lawful (row_at rs s) s m (met_left (row_demands es n d (row_at rs s) s m) _ h),
-    rows_lawful k (s + 1) (m + (row_at rs s).count) (met_right (row_demands es n d (row_at rs s) s m) _ h),
-  )
+  rows_lawful : (s : ℕ) (rs : List TableRow) (m : ℕ) (es : List TableEdge) → Met (rows_demands t s rs m es)
+      → AllByRecursion (LawfulRow (length t.rows.now) t.denominator) (rows_of rs es)
+  unfolding rows_demands rows_of
+  rows_lawful s [] m es h = tt
+  rows_lawful s (r ∷ rs) m es h =
+      (row_lawful s r m es (met_left (row_demands t s r m es) _ h), rows_lawful (s + 1) rs (m + r.count) (drop r.count es) (met_right (row_demands t s r m es) _ h))
 
-  rows_sparse : (k s m : ℕ) → m ≤ most_edges → Met (rows_demands rs es n d k s m) → m + edges_in (rows_from rs es s m k) ≤ most_edges
-  unfolding rows_demands rows_from
-  rows_sparse zero s m l h = omega arith
-  rows_sparse (suc k) s m l h =
-      let count = (row_at rs s).count in
-      let few = leb-true (m + count) most_edges h.0 in
-      let rest = rows_sparse k (s + 1) (m + count) few (met_right (row_demands es n d (row_at rs s) s m) _ h) in
-      rw (length_edges es m count) (omega arith)
+  rows_sparse : (s : ℕ) (rs : List TableRow) (m : ℕ) (es : List TableEdge) → m ≤ most_edges → Met (rows_demands t s rs m es) → m + edges_in (rows_of rs es) ≤ most_edges
+  unfolding rows_demands rows_of
+  rows_sparse s [] m es l h = omega arith
+  rows_sparse s (r ∷ rs) m es l h =
+      let few = leb-true (m + r.count) most_edges h.0 in
+      let rest = rows_sparse (s + 1) rs (m + r.count) (drop r.count es) few (met_right (row_demands t s r m es) _ h) in
+      rw (length_edges r.count es) (omega arith)
 
-  rows_whole : (k s m : ℕ) → m ≤ length es → Met (rows_demands rs es n d k s m) → m + edges_in (rows_from rs es s m k) ≡ length es
-  unfolding rows_demands rows_from
-  rows_whole zero s m l h = let e = leb-true (length es) m h.0 in omega arith
-  rows_whole (suc k) s m l h =
-      let count = (row_at rs s).count in
-      let here = met_left (row_demands es n d (row_at rs s) s m) _ h in
-      let inside = edges_inside es n s count m 0 l (met_left (edges_demands es n s count m 0) _ here.1) in
-      let rest = rows_whole k (s + 1) (m + count) inside (met_right (row_demands es n d (row_at rs s) s m) _ h) in
-      rw (length_edges es m count) (omega arith)
+  rows_whole : (s : ℕ) (rs : List TableRow) (m : ℕ) (es : List TableEdge) → Met (rows_demands t s rs m es) → edges_in (rows_of rs es) ≡ length es
+  unfolding rows_demands rows_of
+  rows_whole s [] m es h = sym (eqb-true (length es) 0 h.0)
+  rows_whole s (r ∷ rs) m es h =
+      let here = met_left (row_demands t s r m es) _ h in
+      let inside = edges_inside t s r.count es 0 (met_left (edges_demands t s r.count es 0) _ here.1) in
+      let rest = rows_whole (s + 1) rs (m + r.count) (drop r.count es) (met_right (row_demands t s r m es) _ h) in
+      let d = length-drop r.count es in
+      rw (length_edges r.count es) (omega arith)
 
-  rows_met : (k s m : ℕ) → AllByRecursion (LawfulRow n d) (rows_from rs es s m k) → m + edges_in (rows_from rs es s m k) ≤ most_edges
-      → m + edges_in (rows_from rs es s m k) ≡ length es → Met (rows_demands rs es n d k s m)
-  unfolding rows_demands rows_from
-  rows_met zero s m a few e = (le-leb (length es) m (omega arith), tt)
-  rows_met (suc k) s m a few e =
-      let count = (row_at rs s).count in
-      let rest = rows_from rs es (s + 1) (m + count) k in
-      let len = length_edges es m count in
-      let few' : m + (count + edges_in rest) ≤ most_edges = rw len at few in
-      let e' : m + (count + edges_in rest) ≡ length es = rw len at e in
-      met_append (row_demands es n d (row_at rs s) s m) _ (
-        le-leb (m + count) most_edges (omega arith),
-        met_append (edges_demands es n s count m 0) _ (edges_met es n s count m 0 (omega arith) a.0.rising) (eq-eqb _ _ a.0.whole, tt),
+  rows_met : (s : ℕ) (rs : List TableRow) (m : ℕ) (es : List TableEdge) → AllByRecursion (LawfulRow (length t.rows.now) t.denominator) (rows_of rs es)
+      → m + edges_in (rows_of rs es) ≤ most_edges → edges_in (rows_of rs es) ≡ length es → Met (rows_demands t s rs m es)
+  unfolding rows_demands rows_of
+  rows_met s [] m es a few e = (eq-eqb (length es) 0 (sym e), tt)
+  rows_met s (r ∷ rs) m es a few e =
+      let rest = rows_of rs (drop r.count es) in
+      let len = length_edges r.count es in
+      let d = length-drop r.count es in
+      let few' : m + (r.count + edges_in rest) ≤ most_edges = rw len at few in
+      let e' : r.count + edges_in rest ≡ length es = rw len at e in
+      met_append (row_demands t s r m es) _ (
+        le-leb (m + r.count) most_edges (omega arith),
+        met_append (edges_demands t s r.count es 0) _ (edges_met t s r.count es 0 (omega arith) a.0.rising) (eq-eqb _ _ a.0.whole, tt),
       )
-      (rows_met k (s + 1) (m + count) a.1 (omega arith) (omega arith))
+      (rows_met (s + 1) rs (m + r.count) (drop r.count es) a.1 (omega arith) (omega arith))
 
-module _ (rs : List TableRow) (es : List TableEdge) (start d : ℕ) where
-  met_lawful : Met (demands rs es start d) → Lawful (tabled rs es start d)
+  met_lawful : Met (demands t) → Lawful (tabled t)
   met_lawful h =
-      let n = length rs in
+      let n = length t.rows.now in
       let rows = h.1.1.1 in
-      let e = length_rows rs es 0 0 n in
+      let e = length_rows t.rows.now t.edges.now in
       let some = and_parts (leb 1 n) (leb n most_states) h.0 in
-      let divided = and_parts (leb 1 d) (leb d most_denominator) h.1.0 in
-      let sparse = rows_sparse rs es n d n 0 0 (omega arith) rows in
+      let divided = and_parts (leb 1 t.denominator) (leb t.denominator most_denominator) h.1.0 in
+      let sparse = rows_sparse 0 t.rows.now 0 t.edges.now (omega arith) rows in
       record {
         some = rw e (leb-true 1 n some.0);
         few = rw e (leb-true n most_states some.1);
-        starts = rw e (ltb-true start n h.1.1.0);
-        divides = leb-true 1 d divided.0;
-        divided = leb-true d most_denominator divided.1;
+        starts = rw e (ltb-true t.start n h.1.1.0);
+        divides = leb-true 1 t.denominator divided.0;
+        divided = leb-true t.denominator most_denominator divided.1;
         sparse = omega arith;
-        each = rw e (rows_lawful rs es n d n 0 0 rows);
+        each = rw e (rows_lawful 0 t.rows.now 0 t.edges.now rows);
       }
 
-  met_whole : Met (demands rs es start d) → edge_total (tabled rs es start d) ≡ length es
-  met_whole h = let w = rows_whole rs es (length rs) d (length rs) 0 0 (omega arith) h.1.1.1 in omega arith
-
-  lawful_met : Lawful (tabled rs es start d) → edge_total (tabled rs es start d) ≡ length es → Met (demands rs es start d)
+  lawful_met : Lawful (tabled t) → edge_total (tabled t) ≡ length t.edges.now → Met (demands t)
   lawful_met l w =
-      let n = length rs in
-      let e = length_rows rs es 0 0 n in
+      let n = length t.rows.now in
+      let e = length_rows t.rows.now t.edges.now in
       let some : 1 ≤ n = rw e at l.some in
       let few : n ≤ most_states = rw e at l.few in
       let sparse = l.sparse in (
         and_from (leb 1 n) (leb n most_states) (le-leb 1 n some) (le-leb n most_states few),
         (
-          and_from (leb 1 d) (leb d most_denominator) (le-leb 1 d l.divides) (le-leb d most_denominator l.divided),
-          (lt-ltb start n (rw e at l.starts), rows_met rs es n d n 0 0 (rw e at l.each) (omega arith) (omega arith)),
+          and_from (leb 1 t.denominator) (leb t.denominator most_denominator) (le-leb 1 t.denominator l.divides) (le-leb t.denominator most_denominator l.divided),
+          (lt-ltb t.start n (rw e at l.starts), rows_met 0 t.rows.now 0 t.edges.now (rw e at l.each) (omega arith) w),
         ),
       )
 
-  pub faultless_lawful : Faultless rs es start d → Lawful (tabled rs es start d)
-  faultless_lawful h = met_lawful (ok_met (demands rs es start d) (tt {0}) h)
+  pub faultless_lawful : Faultless t → Lawful (tabled t)
+  faultless_lawful h = met_lawful (ok_met (demands t) (tt {0}) h)
 
-  pub faultless_whole : Faultless rs es start d → edge_total (tabled rs es start d) ≡ length es
-  faultless_whole h = met_whole (ok_met (demands rs es start d) (tt {0}) h)
+  pub faultless_whole : Faultless t → edge_total (tabled t) ≡ length t.edges.now
+  faultless_whole h = rows_whole 0 t.rows.now 0 t.edges.now (ok_met (demands t) (tt {0}) h).1.1.1
 
-  pub accepted : Faultless rs es start d → Judges rs es start d (Ok (tt {0}))
-  accepted h = (faultless_lawful h, faultless_whole h)
-
-  pub refused : (r : Refusal TableFault) → Err r ≡ judged rs es start d → Judges rs es start d (Err r)
-  refused r h = (
-    told_first (demands rs es start d) (tt {0}) r (sym h),
-    λ l w. let ok = met_told (demands rs es start d) (tt {0}) (lawful_met l w) in ok_err (sym ok ∙ sym h),
+  pub judges : (r : Result (Unit {0}) (Refusal TableFault)) → r ≡ judged t → Judges t r
+  judges (Ok u) h = let ok : is_ok (judged t) ≡ true = rw (← h) in (faultless_lawful ok, faultless_whole ok)
+  judges (Err f) h = (
+    told_first (demands t) (tt {0}) f (sym h),
+    λ l w. let ok = met_told (demands t) (tt {0}) (lawful_met l w) in ok_err (sym ok ∙ sym h),
   )

@@ -1,99 +1,74 @@
 -- One turn of each loop of the check, and what a row's parts tell together.
-use Rattle.std.proofs.Common.{◌≡◌, ℕ, zero, suc, ◌+◌, ◌-◌, ◌<◌, ◌≤◌, true, false, eqb, leb, List, [], ◌∷◌, ◌++◌, length, Ok, Err, sym, ◌∙◌, arith}
-use Rattle.std.proofs.lemmas.Bool.{ne_eqb, eq-eqb, le-leb}
+use Rattle.std.proofs.Common.{◌≡◌, ℕ, suc, ◌+◌, ◌<◌, ◌≤◌, eqb, List, [], ◌∷◌, length, drop, Ok, Err, sym, arith}
+use Rattle.std.specs.Prelude.{slice_index_or}
+use Rattle.std.proofs.Math.Seq.{drop-length}
+use Rattle.std.proofs.lemmas.List.{drop_more}
+use Rattle.std.proofs.lemmas.Bool.{le-leb}
 use Rattle.refusal.specs.declared.Refusal.{Refusal}
 use Rattle.refusal.specs.Demands.{demand, told}
-use Rattle.refusal.proofs.Told.{told_on, told_value, told_stop}
+use Rattle.refusal.proofs.Told.{told_on, told_stop, told_through}
 use Rattle.chain.specs.Limits.{most_edges}
 use Rattle.chain.specs.Markov.{weight_sum}
 use Rattle.tables.specs.declared.tables.TableRow.{TableRow}
 use Rattle.tables.specs.declared.tables.TableEdge.{TableEdge}
+use Rattle.tables.specs.declared.tables.Tables.{Tables}
 use Rattle.tables.specs.declared.fault.TableFault.{TableFault}
 use Rattle.tables.specs.declared.fault.TableFault.TheVariants.{WrongSum, Leftover}
-use Rattle.tables.specs.Tabled.{edge_at, row_at, edges_from}
+use Rattle.tables.specs.Tabled.{next_edge, next_edges}
 use Rattle.tables.specs.Faults.{Demands, edge_demands, edges_demands, row_demands, rows_demands}
 
-module _ (es : List TableEdge) (n s : ℕ) where
-  edges_more : (j i low : ℕ) → 0 < j → edges_demands es n s j i low ≡ edge_demands es n s i low ++ edges_demands es n s (j - 1) (i + 1) ((edge_at es i).target + 1)
-  unfolding edges_demands
-  edges_more zero i low h = absurd (omega arith)
-  edges_more (suc j) i low h = let e : suc j - 1 ≡ j = omega arith in rw e
-
-  weights_more : (j i : ℕ) → 0 < j → weight_sum (edges_from es i j) ≡ (edge_at es i).weight + weight_sum (edges_from es (i + 1) (j - 1))
-  unfolding edges_from
-  weights_more zero i h = absurd (omega arith)
-  weights_more (suc j) i h = let e : suc j - 1 ≡ j = omega arith in rw e
-
+module _ (t : Tables) (s : ℕ) (es : List TableEdge) where
   -- what an edge that has no fault leaves to be told
-  pub edges_turn : (count first k low v : ℕ) (x : TableEdge) → k < count → Ok x ≡ told (edge_demands es n s (first + k) low) (edge_at es (first + k))
-      → (told (edges_demands es n s (count - k) (first + k) low) v ≡ told (edges_demands es n s (count - (k + 1)) (first + (k + 1)) (x.target + 1)) v)
-      × (weight_sum (edges_from es (first + k) (count - k)) ≡ x.weight + weight_sum (edges_from es (first + (k + 1)) (count - (k + 1))))
-  edges_turn count first k low v x h e =
-      let i = first + k in
-      let rest = edges_demands es n s (count - k - 1) (i + 1) ((edge_at es i).target + 1) in
-      let same = told_value (edge_demands es n s i low) (edge_at es i) x e in
-      let q₁ : count - (k + 1) ≡ count - k - 1 = omega arith in
-      let q₂ : first + (k + 1) ≡ i + 1 = omega arith in
-      let m = edges_more (count - k) i low (omega arith) in (
-        rw (q₁, q₂, same, m) (told_on (edge_demands es n s i low) rest (edge_at es i) x v e),
-        rw (q₁, q₂, same) (weights_more (count - k) i (omega arith)),
-      )
+  pub edges_turn : (i j low sum : ℕ) (e : TableEdge) → i ≡ suc j → Ok e ≡ told (edge_demands t s es low) (next_edge es)
+      → told (edges_demands t s i es low) (sum + weight_sum (next_edges i es)) ≡ told (edges_demands t s j (drop 1 es) (e.target + 1)) (sum + e.weight + weight_sum (next_edges j (drop 1 es)))
+  unfolding edges_demands next_edges
+  edges_turn i j low sum e more h =
+      let later : TableEdge → Demands = λ x. edges_demands t s j (drop 1 es) (x.target + 1) in
+      let total : TableEdge → ℕ = λ x. sum + x.weight + weight_sum (next_edges j (drop 1 es)) in
+      let added : sum + ((next_edge es).weight + weight_sum (next_edges j (drop 1 es))) ≡ total (next_edge es) = omega arith in
+      rw (more, added) (told_through (edge_demands t s es low) later total (next_edge es) e h)
 
-  pub edges_stop : (j i low v : ℕ) (x : TableEdge) (f : Refusal TableFault) → 0 < j → Err f ≡ told (edge_demands es n s i low) x → told (edges_demands es n s j i low) v ≡ Err f
-  edges_stop j i low v x f h e =
-      rw (edges_more j i low h) (told_stop (edge_demands es n s i low) (edges_demands es n s (j - 1) (i + 1) ((edge_at es i).target + 1)) x v f (sym e))
-
-  pub edges_none : (j i low : ℕ) → j ≡ 0 → edges_demands es n s j i low ≡ []
+  pub edges_stop : (i j low v : ℕ) (f : Refusal TableFault) → i ≡ suc j → Err f ≡ told (edge_demands t s es low) (next_edge es) → told (edges_demands t s i es low) v ≡ Err f
   unfolding edges_demands
-  edges_none j i low e = rw e
+  edges_stop i j low v f e h =
+      rw e (told_stop (edge_demands t s es low) (edges_demands t s j (drop 1 es) ((next_edge es).target + 1)) (next_edge es) v f (sym h))
 
-pub weights_none : (es : List TableEdge) (i j : ℕ) → j ≡ 0 → weight_sum (edges_from es i j) ≡ 0
-unfolding edges_from
-weights_none es i j e = rw e
+  pub edges_end : (i low sum : ℕ) → i ≡ 0 → told (edges_demands t s i es low) (sum + weight_sum (next_edges i es)) ≡ Ok sum
+  unfolding edges_demands next_edges
+  edges_end i low sum e = let none : sum + 0 ≡ sum = omega arith in rw (e, none)
 
-module _ (es : List TableEdge) (n d : ℕ) (r : TableRow) (s m : ℕ) (few : m + r.count ≤ most_edges) where
-  last : Demands
-  last = demand (eqb (weight_sum (edges_from es m r.count)) d) WrongSum s ∷ []
+  module _ (r : TableRow) (m : ℕ) (few : m + r.count ≤ most_edges) where
+    sum_demands : ℕ → Demands
+    sum_demands sum = demand (eqb sum t.denominator) WrongSum s ∷ []
 
-  counted : {V : Type 0} (v : V) → told (row_demands es n d r s m) v ≡ told (edges_demands es n s r.count m 0 ++ last) v
-  unfolding last
-  counted v = rw (le-leb (m + r.count) most_edges few)
+    pub row_stop : (v : ℕ) (f : Refusal TableFault) → Err f ≡ told (edges_demands t s r.count es 0) v → told (row_demands t s r m es) (tt {0}) ≡ Err f
+    unfolding sum_demands
+    row_stop v f h = rw (le-leb (m + r.count) most_edges few) (told_stop (edges_demands t s r.count es 0) (sum_demands (weight_sum (next_edges r.count es))) v (tt {0}) f (sym h))
 
-  pub row_stop : {V : Type 0} (v : V) (x : ℕ) (f : Refusal TableFault) → Err f ≡ told (edges_demands es n s r.count m 0) x → told (row_demands es n d r s m) v ≡ Err f
-  row_stop v x f h = counted v ∙ told_stop (edges_demands es n s r.count m 0) last x v f (sym h)
+    pub row_end : (sum : ℕ) → Ok sum ≡ told (edges_demands t s r.count es 0) (weight_sum (next_edges r.count es))
+        → told (row_demands t s r m es) (tt {0}) ≡ told (demand (eqb sum t.denominator) WrongSum s ∷ []) (tt {0})
+    unfolding sum_demands
+    row_end sum h = rw (le-leb (m + r.count) most_edges few) (told_through (edges_demands t s r.count es 0) sum_demands (λ _. tt {0}) _ sum h)
 
-  module _ (sum : ℕ) (summed : Ok sum ≡ told (edges_demands es n s r.count m 0) (weight_sum (edges_from es m r.count))) where
-    same_sum : weight_sum (edges_from es m r.count) ≡ sum
-    same_sum = sym (told_value (edges_demands es n s r.count m 0) _ sum summed)
+module _ (t : Tables) (rs : List TableRow) (i m : ℕ) (es : List TableEdge) where
+  abbrev pub zeros : TableRow
+  zeros = record { propositions = 0; count = 0 }
 
-    after_edges : {V : Type 0} (v : V) → told (row_demands es n d r s m) v ≡ told last v
-    after_edges v = counted v ∙ told_on (edges_demands es n s r.count m 0) last _ sum v summed
-
-    pub row_uneven : {V : Type 0} (v : V) → (sum ≡ d → ⊥) → told (row_demands es n d r s m) v ≡ Err (record { fault = WrongSum; place = s })
-    unfolding last
-    row_uneven v h = let q : eqb (weight_sum (edges_from es m r.count)) d ≡ false = rw same_sum (ne_eqb sum d h) in after_edges v ∙ rw q
-
-    pub row_even : {V : Type 0} (v : V) → sum ≡ d → told (row_demands es n d r s m) v ≡ Ok v
-    unfolding last
-    row_even v h = let q : eqb (weight_sum (edges_from es m r.count)) d ≡ true = rw same_sum (eq-eqb sum d h) in after_edges v ∙ rw q
-
-module _ (rs : List TableRow) (es : List TableEdge) (n d : ℕ) where
-  rows_more : (j s m : ℕ) → 0 < j → rows_demands rs es n d j s m ≡ row_demands es n d (row_at rs s) s m ++ rows_demands rs es n d (j - 1) (s + 1) (m + (row_at rs s).count)
-  unfolding rows_demands
-  rows_more zero s m h = absurd (omega arith)
-  rows_more (suc j) s m h = let e : suc j - 1 ≡ j = omega arith in rw e
-
-  pub rows_none : (j s m : ℕ) → j ≡ 0 → rows_demands rs es n d j s m ≡ demand (leb (length es) m) Leftover s ∷ []
-  unfolding rows_demands
-  rows_none j s m e = rw e
+  abbrev pub row : TableRow
+  row = slice_index_or rs i zeros
 
   -- what a row that has no fault leaves to be told
-  pub rows_turn : {U V : Type 0} (j s m : ℕ) (r : TableRow) (u u' : U) (v : V) → 0 < j → r ≡ row_at rs s → Ok u' ≡ told (row_demands es n d r s m) u
-      → told (rows_demands rs es n d j s m) v ≡ told (rows_demands rs es n d (j - 1) (s + 1) (m + r.count)) v
-  rows_turn j s m r u u' v h e ok =
-      rw (rows_more j s m h, ← e) (told_on (row_demands es n d r s m) (rows_demands rs es n d (j - 1) (s + 1) (m + r.count)) u u' v ok)
+  pub rows_turn : i < length rs → Ok (tt {0}) ≡ told (row_demands t i row m es) (tt {0})
+      → told (rows_demands t i (drop i rs) m es) (tt {0}) ≡ told (rows_demands t (i + 1) (drop (i + 1) rs) (m + row.count) (drop row.count es)) (tt {0})
+  unfolding rows_demands
+  rows_turn more h =
+      rw (drop_more rs i zeros more) (told_on (row_demands t i row m es) (rows_demands t (i + 1) (drop (i + 1) rs) (m + row.count) (drop row.count es)) (tt {0}) (tt {0}) (tt {0}) h)
 
-  pub rows_stop : {U V : Type 0} (j s m : ℕ) (r : TableRow) (u : U) (v : V) (f : Refusal TableFault) → 0 < j → r ≡ row_at rs s → Err f ≡ told (row_demands es n d r s m) u
-      → told (rows_demands rs es n d j s m) v ≡ Err f
-  rows_stop j s m r u v f h e stop =
-      rw (rows_more j s m h, ← e) (told_stop (row_demands es n d r s m) (rows_demands rs es n d (j - 1) (s + 1) (m + r.count)) u v f (sym stop))
+  pub rows_stop : (f : Refusal TableFault) → i < length rs → Err f ≡ told (row_demands t i row m es) (tt {0}) → told (rows_demands t i (drop i rs) m es) (tt {0}) ≡ Err f
+  unfolding rows_demands
+  rows_stop f more h =
+      rw (drop_more rs i zeros more) (told_stop (row_demands t i row m es) (rows_demands t (i + 1) (drop (i + 1) rs) (m + row.count) (drop row.count es)) (tt {0}) (tt {0}) f (sym h))
+
+  pub rows_end : i ≡ length rs → told (rows_demands t i (drop i rs) m es) (tt {0}) ≡ told (demand (eqb (length es) 0) Leftover (length rs) ∷ []) (tt {0})
+  unfolding rows_demands
+  rows_end e = rw (e, drop-length rs)

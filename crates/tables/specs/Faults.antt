@@ -1,55 +1,56 @@
 -- What tables must meet, in the order of a file.
-use Rattle.std.specs.Prelude.{◌≡◌, ℕ, zero, suc, ◌+◌, true, ◌&&◌, List, [], ◌∷◌, ◌++◌, length, is_ok, Result, ◌==◌, nat_le, nat_lt}
+use Rattle.std.specs.Prelude.{◌≡◌, ℕ, zero, suc, ◌+◌, true, ◌&&◌, List, [], ◌∷◌, ◌++◌, length, drop, is_ok, Result, ◌==◌, nat_le, nat_lt}
 use Rattle.refusal.specs.declared.Refusal.{Refusal}
 use Rattle.refusal.specs.Demands.{Demand, demand, told}
 use Rattle.chain.specs.Limits.{most_states, most_edges, most_denominator}
 use Rattle.chain.specs.Markov.{weight_sum}
 use Rattle.tables.specs.declared.tables.TableRow.{TableRow}
 use Rattle.tables.specs.declared.tables.TableEdge.{TableEdge}
+use Rattle.tables.specs.declared.tables.Tables.{Tables}
 use Rattle.tables.specs.declared.fault.TableFault.{TableFault}
 use Rattle.tables.specs.declared.fault.TableFault.TheVariants.{BadRowCount, EdgesRunOut, BadDenominator, StartOutside, BadTarget, ZeroWeight, WrongSum, TooManyEdges, Leftover}
-use Rattle.tables.specs.Tabled.{edge_at, row_at, edges_from}
+use Rattle.tables.specs.Tabled.{next_edge, next_edges}
 
 abbrev pub Demands : Type 0
 Demands = List (Demand TableFault)
 
--- the edge at the place i, of the state s of a chain with n states; its target is at least `low`
-abbrev pub edge_demands : List TableEdge → ℕ → ℕ → ℕ → ℕ → Demands
-edge_demands es n s i low =
-    demand (nat_lt i (length es)) EdgesRunOut s
-    ∷ demand (nat_le low (edge_at es i).target && nat_lt (edge_at es i).target n) BadTarget s
-    ∷ demand (nat_le 1 (edge_at es i).weight) ZeroWeight s
+-- the next of the edges that are left, of the state s; its target is at least `low`
+abbrev pub edge_demands : Tables → ℕ → List TableEdge → ℕ → Demands
+edge_demands t s es low =
+    demand (nat_lt 0 (length es)) EdgesRunOut s
+    ∷ demand (nat_le low (next_edge es).target && nat_lt (next_edge es).target (length t.rows.now)) BadTarget s
+    ∷ demand (nat_le 1 (next_edge es).weight) ZeroWeight s
     ∷ []
 
--- k edges from the place i on
-unfoldable pub edges_demands : List TableEdge → ℕ → ℕ → ℕ → ℕ → ℕ → Demands
-edges_demands es n s zero i low = []
-edges_demands es n s (suc k) i low = edge_demands es n s i low ++ edges_demands es n s k (i + 1) ((edge_at es i).target + 1)
+-- the next k edges
+unfoldable pub edges_demands : Tables → ℕ → ℕ → List TableEdge → ℕ → Demands
+edges_demands t s zero es low = []
+edges_demands t s (suc k) es low = edge_demands t s es low ++ edges_demands t s k (drop 1 es) ((next_edge es).target + 1)
 
 -- the row of the state s, after rows with m edges
-abbrev pub row_demands : List TableEdge → ℕ → ℕ → TableRow → ℕ → ℕ → Demands
-row_demands es n d r s m =
+abbrev pub row_demands : Tables → ℕ → TableRow → ℕ → List TableEdge → Demands
+row_demands t s r m es =
     demand (nat_le (m + r.count) most_edges) TooManyEdges s
-    ∷ (edges_demands es n s r.count m 0 ++ demand (weight_sum (edges_from es m r.count) == d) WrongSum s ∷ [])
+    ∷ (edges_demands t s r.count es 0 ++ demand (weight_sum (next_edges r.count es) == t.denominator) WrongSum s ∷ [])
 
--- k rows from the state s on, after rows with m edges, and then the end
-unfoldable pub rows_demands : List TableRow → List TableEdge → ℕ → ℕ → ℕ → ℕ → ℕ → Demands
-rows_demands rs es n d zero s m = demand (nat_le (length es) m) Leftover s ∷ []
-rows_demands rs es n d (suc k) s m = row_demands es n d (row_at rs s) s m ++ rows_demands rs es n d k (s + 1) (m + (row_at rs s).count)
+-- the rows from the state s on, after rows with m edges, and then the end
+unfoldable pub rows_demands : Tables → ℕ → List TableRow → ℕ → List TableEdge → Demands
+rows_demands t s [] m es = demand (length es == 0) Leftover s ∷ []
+rows_demands t s (r ∷ rs) m es = row_demands t s r m es ++ rows_demands t (s + 1) rs (m + r.count) (drop r.count es)
 
-abbrev pub head_demands : ℕ → ℕ → ℕ → Demands
-head_demands n start d =
-    demand (nat_le 1 n && nat_le n most_states) BadRowCount 0
-    ∷ demand (nat_le 1 d && nat_le d most_denominator) BadDenominator 0
-    ∷ demand (nat_lt start n) StartOutside 0
+abbrev pub head_demands : Tables → Demands
+head_demands t =
+    demand (nat_le 1 (length t.rows.now) && nat_le (length t.rows.now) most_states) BadRowCount 0
+    ∷ demand (nat_le 1 t.denominator && nat_le t.denominator most_denominator) BadDenominator 0
+    ∷ demand (nat_lt t.start (length t.rows.now)) StartOutside 0
     ∷ []
 
-abbrev pub demands : List TableRow → List TableEdge → ℕ → ℕ → Demands
-demands rs es start d = head_demands (length rs) start d ++ rows_demands rs es (length rs) d (length rs) 0 0
+abbrev pub demands : Tables → Demands
+demands t = head_demands t ++ rows_demands t 0 t.rows.now 0 t.edges.now
 
 -- the refusal of the first demand that the tables break, or `Ok`
-abbrev pub judged : List TableRow → List TableEdge → ℕ → ℕ → Result (Unit {0}) (Refusal TableFault)
-judged rs es start d = told (demands rs es start d) tt
+abbrev pub judged : Tables → Result (Unit {0}) (Refusal TableFault)
+judged t = told (demands t) tt
 
-abbrev pub Faultless : List TableRow → List TableEdge → ℕ → ℕ → Type 0
-Faultless rs es start d = is_ok (judged rs es start d) ≡ true
+abbrev pub Faultless : Tables → Type 0
+Faultless t = is_ok (judged t) ≡ true

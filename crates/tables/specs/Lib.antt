@@ -3,4 +3,3 @@ pub mod Tabled
 pub mod Faults
 pub mod Judgement
 pub mod TakenUp
-pub mod Lent

@@ -1,158 +1,130 @@
 //! The check of tables, in the order of a file.
-ghost use Rattle.std.specs.Prelude.{◌≡◌, ◌+◌, ◌*◌, ◌^◌, ◌<◌, ◌≤◌, length, IfOk, OnOk};
+ghost use Rattle.std.specs.Prelude.{◌≡◌, ◌+◌, ◌-◌, ◌*◌, ◌^◌, ◌<◌, ◌≤◌, length, drop, IfOk, OnOk};
+ghost use Rattle.std.specs.Slice.Iter.{iter_rest};
 ghost use Rattle.chain.specs.Limits.{most_states, most_edges};
 ghost use Rattle.chain.specs.Markov.{weight_sum};
 ghost use Rattle.refusal.specs.Demands.{told};
-ghost use Rattle.tables.specs.Tabled.{edge_at, row_at, edges_from};
-ghost use Rattle.tables.specs.Lent.{judged_of, JudgesOf};
-ghost use Rattle.tables.specs.Faults.{edge_demands, edges_demands, row_demands, rows_demands, head_demands};
+ghost use Rattle.tables.specs.Tabled.{next_edge, next_edges};
+ghost use Rattle.tables.specs.Faults.{edge_demands, edges_demands, row_demands, rows_demands, head_demands, judged};
+ghost use Rattle.tables.specs.Judgement.{Judges};
 
 use crate::fault::TableFault;
 use crate::tables::{TableEdge, TableRow, Tables};
 use chain::{MOST_DENOMINATOR, MOST_EDGES, MOST_STATES};
-use refusal::Refusal;
+use refusal::{Refusal, demand};
+use std::slice;
 
-/// The edge at `at`, of the state `state` of a chain with `states` states; its target is at least `low`.
-fn check_edge(
-    edges: &[TableEdge],
-    states: usize,
-    state: usize,
-    at: usize,
-    low: usize,
-) -> Result<TableEdge, Refusal<TableFault>>
-    ensures bound { IfOk result (λ e. (e.target < states) × (e.weight < 2 ^ 32)) }
-    ensures told { result ≡ told (edge_demands edges.now states state at low) (edge_at edges.now at) }
-{
-    if at >= edges.len() {
-        return Err(Refusal {
+impl<'a> Tables<'a> {
+    /// The number of rows, the denominator and the start.
+    fn check_head(&self) -> Result<(), Refusal<TableFault>>
+        ensures bound { OnOk result (length self.now.rows.now ≤ most_states) }
+        ensures told { result ≡ told (head_demands self.now) tt }
+    {
+        let states = self.rows.len();
+        demand(
+            (1..=MOST_STATES).contains(&states),
+            TableFault::BadRowCount,
+            0,
+        )?;
+        demand(
+            (1..=MOST_DENOMINATOR).contains(&self.denominator),
+            TableFault::BadDenominator,
+            0,
+        )?;
+        demand(self.start < states, TableFault::StartOutside, 0)
+    }
+
+    /// The next edge, of the state `state`; its target is at least `low`.
+    fn next_edge(
+        &self,
+        state: usize,
+        edges: &mut slice::Iter<TableEdge>,
+        low: usize,
+    ) -> Result<TableEdge, Refusal<TableFault>>
+        ensures bound { IfOk result (λ e. (e.target < length self.now.rows.now) × (e.weight < 2 ^ 32)) }
+        ensures told { result ≡ told (edge_demands self.now state (iter_rest edges.old) low) (next_edge (iter_rest edges.old)) }
+        ensures left { OnOk result (iter_rest edges.new ≡ drop 1 (iter_rest edges.old)) }
+    {
+        let edge = edges.next().ok_or(Refusal {
             fault: TableFault::EdgesRunOut,
             place: state,
-        });
+        })?;
+        demand(
+            (low..self.rows.len()).contains(&edge.target),
+            TableFault::BadTarget,
+            state,
+        )?;
+        demand(edge.weight > 0, TableFault::ZeroWeight, state)?;
+        Ok(*edge)
     }
-    let edge = edges[at];
-    if edge.target < low || edge.target >= states {
-        return Err(Refusal {
-            fault: TableFault::BadTarget,
-            place: state,
-        });
-    }
-    if edge.weight == 0 {
-        return Err(Refusal {
-            fault: TableFault::ZeroWeight,
-            place: state,
-        });
-    }
-    Ok(edge)
-}
 
-/// The sum of the weights of the `count` edges from `first` on.
-fn check_edges(
-    edges: &[TableEdge],
-    states: usize,
-    state: usize,
-    count: usize,
-    first: usize,
-) -> Result<u64, Refusal<TableFault>>
-    requires { first + count ≤ most_edges }
-    ensures { result ≡ told (edges_demands edges.now states state count first 0) (weight_sum (edges_from edges.now first count)) }
-{
-    let mut low = 0;
-    let mut sum = 0;
-    for k in 0..count {
-        let edge = check_edge(edges, states, state, first + k, low)?;
-        low = edge.target + 1;
-        sum += edge.weight as u64;
+    /// The sum of the weights of the next `count` edges.
+    fn sum_edges(
+        &self,
+        state: usize,
+        edges: &mut slice::Iter<TableEdge>,
+        count: usize,
+    ) -> Result<u64, Refusal<TableFault>>
+        requires { count ≤ most_edges }
+        ensures told { result ≡ told (edges_demands self.now state count (iter_rest edges.old) 0) (weight_sum (next_edges count (iter_rest edges.old))) }
+        ensures left { OnOk result (iter_rest edges.new ≡ drop count (iter_rest edges.old)) }
+    {
+        let mut low = 0;
+        let mut sum = 0;
+        for _ in 0..count {
+            let edge = self.next_edge(state, edges, low)?;
+            low = edge.target + 1;
+            sum += u64::from(edge.weight);
+        }
+        Ok(sum)
     }
-    Ok(sum)
-}
 
-/// The row of a state, after rows with `before` edges.
-fn check_row(
-    row: TableRow,
-    tables: &Tables,
-    state: usize,
-    before: usize,
-) -> Result<(), Refusal<TableFault>>
-    requires { before ≤ most_edges }
-    ensures bound { OnOk result (before + row.count ≤ most_edges) }
-    ensures told { result ≡ told (row_demands tables.now.edges.now (length tables.now.rows.now) tables.now.denominator row state before) tt }
-{
-    if row.count > MOST_EDGES - before {
-        return Err(Refusal {
-            fault: TableFault::TooManyEdges,
-            place: state,
-        });
+    /// The row of the state `state`, after rows with `before` edges.
+    fn check_row(
+        &self,
+        state: usize,
+        row: &TableRow,
+        before: usize,
+        edges: &mut slice::Iter<TableEdge>,
+    ) -> Result<(), Refusal<TableFault>>
+        requires { before ≤ most_edges }
+        ensures bound { OnOk result (before + row.now.count ≤ most_edges) }
+        ensures told { result ≡ told (row_demands self.now state row.now before (iter_rest edges.old)) tt }
+        ensures left { OnOk result (iter_rest edges.new ≡ drop row.now.count (iter_rest edges.old)) }
+    {
+        demand(
+            row.count <= MOST_EDGES - before,
+            TableFault::TooManyEdges,
+            state,
+        )?;
+        let sum = self.sum_edges(state, edges, row.count)?;
+        demand(
+            sum == u64::from(self.denominator),
+            TableFault::WrongSum,
+            state,
+        )
     }
-    let sum = check_edges(tables.edges, tables.rows.len(), state, row.count, before)?;
-    if sum != tables.denominator as u64 {
-        return Err(Refusal {
-            fault: TableFault::WrongSum,
-            place: state,
-        });
-    }
-    Ok(())
-}
 
-/// The rows, and that no edge is left.
-fn check_rows(tables: &Tables) -> Result<(), Refusal<TableFault>>
-    requires { length tables.now.rows.now ≤ most_states }
-    ensures { result ≡ told (rows_demands tables.now.rows.now tables.now.edges.now
-        (length tables.now.rows.now) tables.now.denominator (length tables.now.rows.now) 0 0) tt }
-{
-    let states = tables.rows.len();
-    let mut before = 0;
-    for state in 0..states {
-        let row = tables.rows[state];
-        check_row(row, tables, state, before)?;
-        before += row.count;
+    /// The rows, and that no edge is left.
+    fn check_rows(&self) -> Result<(), Refusal<TableFault>>
+        requires { length self.now.rows.now ≤ most_states }
+        ensures { result ≡ told (rows_demands self.now 0 self.now.rows.now 0 self.now.edges.now) tt }
+    {
+        let mut edges = self.edges.iter();
+        let mut before = 0;
+        for (state, row) in self.rows.iter().enumerate() {
+            self.check_row(state, row, before, &mut edges)?;
+            before += row.count;
+        }
+        demand(edges.len() == 0, TableFault::Leftover, self.rows.len())
     }
-    if tables.edges.len() > before {
-        return Err(Refusal {
-            fault: TableFault::Leftover,
-            place: states,
-        });
-    }
-    Ok(())
-}
-
-/// The number of rows, the denominator and the start.
-fn check_head(states: usize, start: usize, denominator: u32) -> Result<(), Refusal<TableFault>>
-    ensures bound { OnOk result (states ≤ most_states) }
-    ensures told { result ≡ told (head_demands states start denominator) tt }
-{
-    if states == 0 || states > MOST_STATES {
-        return Err(Refusal {
-            fault: TableFault::BadRowCount,
-            place: 0,
-        });
-    }
-    if denominator == 0 || denominator > MOST_DENOMINATOR {
-        return Err(Refusal {
-            fault: TableFault::BadDenominator,
-            place: 0,
-        });
-    }
-    if start >= states {
-        return Err(Refusal {
-            fault: TableFault::StartOutside,
-            place: 0,
-        });
-    }
-    Ok(())
-}
-
-fn first_fault(tables: &Tables) -> Result<(), Refusal<TableFault>>
-    ensures { result ≡ judged_of tables.now }
-{
-    check_head(tables.rows.len(), tables.start, tables.denominator)?;
-    check_rows(tables)
 }
 
 /// Whether the tables are a chain's; if not, the first fault in the order of a file.
 pub fn check(tables: &Tables) -> Result<(), Refusal<TableFault>>
-    ensures value { result ≡ judged_of tables.now }
-    ensures judges { JudgesOf tables.now result }
+    ensures value { result ≡ judged tables.now }
+    ensures judges { Judges tables.now result }
 {
-    first_fault(tables)?;
-    Ok(())
+    tables.check_head()?;
+    tables.check_rows()
 }

@@ -1,39 +1,47 @@
-use Rattle.std.proofs.Common.{arith, rules}
-use Rattle.table_chain.proofs.Lookup.{edge_no_row, edge_past, edge_found, within, short}
+use Rattle.std.proofs.Common.{◌+◌, ◌<◌, length, sym, ◌∙◌, arith, rules}
+use Rattle.std.specs.Prelude.{slice_index_or}
+use Rattle.table_chain.proofs.Lookup.{row_read, edge_no_row, edge_past, edge_inside, edge_found, length_firsts, short}
 use Rattle.table_chain.proofs.questions.TableChainChain.edge.Goals as goal
+use Rattle.table_chain.proofs.questions.TableChainChain.edge.Goals.{After-deref}
 
-pub returns-then-state-self : goal.returns-then-state-self
-returns-then-state-self c = let t = c.args.self.now in edge_no_row t.rows.now t.edges.now t.start t.denominator t.faultless c.args.state c.args.place
-    c.if-state-self.true
+inside : (c : After-deref) → slice_index_or c.deref.result.now c.args.state 0 + c.args.place < length c.args.self.now.tables.edges.now
+inside c =
+    let t = c.args.self.now.tables in
+    let found = row_read t.rows.now c.args.state c.in_ok-row.row c.in_ok-row.ensures.lookup in
+    edge_inside t c.args.state c.in_ok-row.row.now found c.deref.result.now (c.deref.ensures.0 ∙ c.args.self.now.placed) c.args.place c.if-place-row.false c.args.self.now.faultless
 
-pub returns-then-place-self : goal.returns-then-place-self
-returns-then-place-self c = let t = c.args.self.now in edge_past t.rows.now t.edges.now t.start t.denominator t.faultless c.args.state c.args.place
-    c.if-state-self.false c.if-place-self.true
+pub returns-in_err-row : goal.returns-in_err-row
+returns-in_err-row c = rw c.from_residual.ensures (sym (edge_no_row c.args.self.now.tables c.args.state c.in_err-row.ensures.lookup.3 c.args.place))
+
+pub returns-then-place-row : goal.returns-then-place-row
+returns-then-place-row c =
+    let t = c.args.self.now.tables in
+    let found = row_read t.rows.now c.args.state c.in_ok-row.row c.in_ok-row.ensures.lookup in
+    sym (edge_past t c.args.state c.in_ok-row.row.now found c.args.place c.if-place-row.true)
+
+pub bounds-deref-state : goal.bounds-deref-state
+bounds-deref-state c =
+    let len = length_firsts 0 c.args.self.now.tables.rows.now in
+    let within = c.in_ok-row.ensures.lookup.3.0 in
+    rw (c.deref.ensures.0, c.args.self.now.placed) (omega arith)
 
 pub overflow_add-edge : goal.overflow_add-edge
 overflow_add-edge c =
-    let t = c.args.self.now in
-    let w = within t.rows.now t.edges.now t.start t.denominator t.faultless c.args.state c.if-state-self.false in
-    let s = short t.rows.now t.edges.now t.start t.denominator t.faultless in
-    let i = t.placed c.args.state c.if-state-self.false in
+    let i = inside (goal.at.overflow_add-edge c).After-deref in
+    let s = short c.args.self.now.tables c.args.self.now.faultless in
     search rules
 
-pub offset_bounds-self-self : goal.offset_bounds-self-self
-offset_bounds-self-self c =
-    let t = c.args.self.now in
-    let w = within t.rows.now t.edges.now t.start t.denominator t.faultless c.args.state c.if-state-self.false in
-    let s = short t.rows.now t.edges.now t.start t.denominator t.faultless in
-    let i = t.placed c.args.state c.if-state-self.false in
+pub offset_bounds-self-deref : goal.offset_bounds-self-deref
+offset_bounds-self-deref c =
+    let i = inside (goal.at.offset_bounds-self-deref c).After-deref in
+    let s = short c.args.self.now.tables c.args.self.now.faultless in
     search rules
 
-pub bounds-self-self : goal.bounds-self-self
-bounds-self-self c =
-    let t = c.args.self.now in
-    let w = within t.rows.now t.edges.now t.start t.denominator t.faultless c.args.state c.if-state-self.false in
-    let s = short t.rows.now t.edges.now t.start t.denominator t.faultless in
-    let i = t.placed c.args.state c.if-state-self.false in
-    omega arith
+pub bounds-self-deref : goal.bounds-self-deref
+bounds-self-deref c = inside (goal.at.bounds-self-deref c).After-deref
 
 pub returns : goal.returns
-returns c = let t = c.args.self.now in edge_found t.rows.now t.edges.now t.start t.denominator t.faultless c.args.state c.args.place _
-    c.if-state-self.false c.if-place-self.false (t.placed c.args.state c.if-state-self.false)
+returns c =
+    let t = c.args.self.now.tables in
+    let found = row_read t.rows.now c.args.state c.in_ok-row.row c.in_ok-row.ensures.lookup in
+    sym (edge_found t c.args.state c.in_ok-row.row.now found c.deref.result.now (c.deref.ensures.0 ∙ c.args.self.now.placed) c.args.place c.if-place-row.false)

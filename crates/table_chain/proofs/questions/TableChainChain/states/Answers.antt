@@ -1,6 +1,6 @@
-use Rattle.std.proofs.Common.{length, sym}
+use Rattle.std.proofs.Common.{sym}
 use Rattle.tables.proofs.Fits.{length_rows}
 use Rattle.table_chain.proofs.questions.TableChainChain.states.Goals as goal
 
 pub returns : goal.returns
-returns c = let t = c.args.self.now in sym (length_rows t.rows.now t.edges.now 0 0 (length t.rows.now))
+returns c = let t = c.args.self.now.tables in sym (length_rows t.rows.now t.edges.now)
