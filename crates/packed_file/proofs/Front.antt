@@ -91,6 +91,9 @@ body_front bs =
       | inr short ↦ ap (λ b. told (body_demands b) (tt {0})) (sym (take_all 16774 bs short))
     ]
 
+pub front_told : (bs front : List ℕ) → front ≡ take (deciding_bytes - 2) bs → told (body_demands front) (tt {0}) ≡ told (body_demands bs) (tt {0})
+front_told bs front e = rw e (sym (body_front bs))
+
 pub judged_front : (bytes : List ℕ) → judged bytes ≡ judged (take deciding_bytes bytes)
 judged_front [] = refl
 judged_front (x ∷ []) = refl

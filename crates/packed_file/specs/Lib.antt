@@ -3,3 +3,4 @@ pub mod Format
 pub mod Faults
 pub mod Judgement
 pub mod TakenUp
+pub mod Reading

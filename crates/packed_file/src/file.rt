@@ -1,14 +1,12 @@
 //! The check of a packed file, from its front.
-ghost use Rattle.std.specs.Prelude.{◌≡◌, ◌≤◌, take, IfOk, Err, MatchResult};
-ghost use Rattle.chain.specs.Limits.{most_states};
+ghost use Rattle.std.specs.Prelude.{◌≡◌, take, Err, MatchResult};
 ghost use Rattle.refusal.specs.Demands.{told};
-ghost use Rattle.packed_file.specs.Format.{marked, states_in, denominator_in};
-ghost use Rattle.packed_file.specs.Faults.{mark_demands, header_demands, body_demands, judged, deciding_bytes};
+ghost use Rattle.packed_file.specs.Format.{marked};
+ghost use Rattle.packed_file.specs.Faults.{mark_demands, body_demands, judged, deciding_bytes};
 ghost use Rattle.packed_file.specs.Judgement.{Judges, Faultless};
 
 use crate::fault::FileFault;
-use crate::fields::{refuse, take};
-use crate::rows::check_rows;
+use crate::fields::Fields;
 use refusal::Refusal;
 
 /// What follows the mark.
@@ -30,29 +28,13 @@ fn after_mark(bytes: &[u8]) -> Result<&[u8], Refusal<FileFault>>
     }
 }
 
-/// The number of states and the denominator.
-fn check_header(body: &[u8]) -> Result<(usize, u32), Refusal<FileFault>>
-    ensures bound { IfOk result (λ h. h.0 ≤ most_states) }
-    ensures told { result ≡ told (header_demands body.now) (states_in body.now, denominator_in body.now) }
-{
-    let states = take(body, 0, 10)? as usize + 1;
-    let denominator = take(body, 10, 16)?;
-    if denominator == 0 {
-        return Err(refuse(FileFault::ZeroDenominator, 10));
-    }
-    let start = take(body, 10 + 16, 10)? as usize;
-    if start >= states {
-        return Err(refuse(FileFault::StartOutside, 10 + 16));
-    }
-    Ok((states, denominator))
-}
-
 /// Everything that follows the mark.
 fn check_body(body: &[u8]) -> Result<(), Refusal<FileFault>>
     ensures { result ≡ told (body_demands body.now) tt }
 {
-    let (states, denominator) = check_header(body)?;
-    check_rows(body, states, denominator)
+    let mut fields = Fields::new(body);
+    let header = fields.header()?;
+    fields.rows(header)
 }
 
 /// The bytes after the mark of a file without a fault; else its first fault from the front.

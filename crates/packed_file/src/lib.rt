@@ -1,10 +1,10 @@
 //! The packed file of a chain: its format, its faults, and the check for them.
 #![tactic(auto)]
 
-mod edges;
 mod fault;
 mod fields;
 mod file;
+mod header;
 mod rows;
 
 pub use crate::fault::FileFault;

@@ -73,3 +73,11 @@ module _ {F : Type 0} where
   -- later demands, and the value, may rest on the value of the earlier ones
   pub told_through : {A B : Type 0} (xs : List (Demand F)) (ys : A → List (Demand F)) (b : A → B) (a a' : A) → Ok a' ≡ told xs a → told (xs ++ ys a) (b a) ≡ told (ys a') (b a')
   told_through xs ys b a a' h = rw (told_value xs a a' h) (told_on xs (ys a) a a' (b a) h)
+
+  -- A turn of a loop over demands: where those of the turn are met, what all tell is what the rest tell;
+  pub told_turn : {A B : Type 0} (all now rest : List (Demand F)) (a a' : A) (b : B) → all ≡ now ++ rest → Ok a' ≡ told now a → told all b ≡ told rest b
+  told_turn all now rest a a' b e h = rw e (told_on now rest a a' b h)
+
+  -- where one of them is broken, it is what the turn tells.
+  pub told_halt : {A B : Type 0} (all now rest : List (Demand F)) (a : A) (b : B) (f : Refusal F) → all ≡ now ++ rest → Err f ≡ told now a → told all b ≡ Err f
+  told_halt all now rest a b f e h = rw e (told_stop now rest a b f (sym h))
