@@ -1,5 +1,5 @@
 -- One turn of each loop of the check.
-use Rattle.std.proofs.Common.{◌≡◌, ℕ, suc, ◌+◌, ◌*◌, List, [], ◌∷◌, ◌++◌, Ok, Err, Result, ◌==◌, nat_le, sym, ap, ◌∙◌, arith}
+use Rattle.std.proofs.Common.{◌≡◌, ℕ, suc, ◌+◌, ◌-◌, ◌*◌, ◌<◌, List, [], ◌∷◌, ◌++◌, Ok, Err, Result, ◌==◌, nat_le, sym, ap, ◌∙◌, arith}
 use Rattle.refusal.specs.declared.Refusal.{Refusal}
 use Rattle.refusal.specs.Demands.{demand, Met, told}
 use Rattle.refusal.proofs.Told.{told_ok, told_value, told_then, told_on, told_stop, told_turn, told_halt}
@@ -13,30 +13,43 @@ use Rattle.packed_file.specs.Format.{edges_at, count_at, after_row}
 use Rattle.packed_file.specs.Faults.{Demands, there, edge_demands, edges_demands, count_demands, sum_demand, row_demands, rows_demands}
 use Rattle.packed_file.specs.Reading.{Reads}
 
-module _ (bs : List ℕ) (n j i p low v : ℕ) (left : j ≡ suc i) where
-  edges_more : edges_demands bs n j p low ≡ edge_demands bs n p low ++ edges_demands bs n i (p + 10 + 16) (field bs p 10 + 1)
+module _ (bs : List ℕ) (n count k p low v : ℕ) (more : k < count) where
+  abbrev here : Demands
+  here = edge_demands bs n p low
+
+  abbrev all : Demands
+  all = edges_demands bs n (count - k) p low
+
+  abbrev rest : Demands
+  rest = edges_demands bs n (count - (k + 1)) (p + 10 + 16) (field bs p 10 + 1)
+
+  left : count - k ≡ suc (count - (k + 1))
+  left = omega arith
+
+  edges_more : all ≡ here ++ rest
   unfolding edges_demands
   edges_more = rw left
 
-  weights_more : weight_sum (edges_at bs p j) ≡ field bs (p + 10) 16 + weight_sum (edges_at bs (p + 10 + 16) i)
+  weights_more : weight_sum (edges_at bs p (count - k)) ≡ field bs (p + 10) 16 + weight_sum (edges_at bs (p + 10 + 16) (count - (k + 1)))
   unfolding edges_at
   weights_more = rw left
 
   -- what an edge that has no fault leaves to be told
   pub edges_turn : (q t w : ℕ) → q ≡ p + 26 → ◌≡◌ {A = Result (ℕ × ℕ) (Refusal FileFault)} (Ok (t, w)) (told (edge_demands bs n p low) (field bs p 10, field bs (p + 10) 16))
-      → (told (edges_demands bs n j p low) v ≡ told (edges_demands bs n i q (t + 1)) v) × (weight_sum (edges_at bs p j) ≡ w + weight_sum (edges_at bs q i))
+      → (told (edges_demands bs n (count - k) p low) v ≡ told (edges_demands bs n (count - (k + 1)) q (t + 1)) v)
+      × (weight_sum (edges_at bs p (count - k)) ≡ w + weight_sum (edges_at bs q (count - (k + 1))))
   edges_turn q t w moved read =
       let edge : ℕ × ℕ = (field bs p 10, field bs (p + 10) 16) in
-      let same = told_value (edge_demands bs n p low) edge (t, w) read in
+      let same = told_value here edge (t, w) read in
       let target : t ≡ field bs p 10 = ap (λ x. x.0) same in
       let weight : w ≡ field bs (p + 10) 16 = ap (λ x. x.1) same in
       let next : q ≡ p + 10 + 16 = omega arith in (
-        rw (next, target) (told_turn (edges_demands bs n j p low) (edge_demands bs n p low) _ edge (t, w) v edges_more read),
+        rw (next, target) (told_turn all here rest edge (t, w) v edges_more read),
         rw (next, weight) weights_more,
       )
 
-  pub edges_halt : (x : ℕ × ℕ) (f : Refusal FileFault) → Err f ≡ told (edge_demands bs n p low) x → told (edges_demands bs n j p low) v ≡ Err f
-  edges_halt x f read = told_halt (edges_demands bs n j p low) (edge_demands bs n p low) (edges_demands bs n i (p + 10 + 16) (field bs p 10 + 1)) x v f edges_more read
+  pub edges_halt : (x : ℕ × ℕ) (f : Refusal FileFault) → Err f ≡ told (edge_demands bs n p low) x → told (edges_demands bs n (count - k) p low) v ≡ Err f
+  edges_halt x f read = told_halt all here rest x v f edges_more read
 
 -- what the parts of a row tell together, where the edges are not above their limit
 module _ (n d m x c place : ℕ) (s₀ s₁ s₂ s₃ : Fields)
@@ -99,18 +112,27 @@ module _ (n d m x c place : ℕ) (s₀ s₁ s₂ s₃ : Fields)
       let tells : Ok (m + count_at bs p) ≡ told (row_demands bs n d p m) (m + count_at bs p) = sym (summed s _ read ∙ told_on (even s) [] (tt {0}) (tt {0}) _ even_sum) in
       record { tells = rw count tells; same = same (Ok s) read; moved = omega (arith, read.moved, counted.moved, lettered.moved, count) }
 
-module _ {V : Type 0} (bs : List ℕ) (n d j i p m : ℕ) (v : V) (left : j ≡ suc i) where
-  rows_more : rows_demands bs n d j p m ≡ row_demands bs n d p m ++ rows_demands bs n d i (after_row bs p) (m + count_at bs p)
+module _ {V : Type 0} (bs : List ℕ) (n d k p m : ℕ) (v : V) (more : k < n) where
+  abbrev row : Demands
+  row = row_demands bs n d p m
+
+  abbrev all_rows : Demands
+  all_rows = rows_demands bs n d (n - k) p m
+
+  abbrev rest_rows : Demands
+  rest_rows = rows_demands bs n d (n - (k + 1)) (after_row bs p) (m + count_at bs p)
+
+  rows_more : all_rows ≡ row ++ rest_rows
   unfolding rows_demands
-  rows_more = rw left
+  rows_more = let left : n - k ≡ suc (n - (k + 1)) = omega arith in rw left
 
   -- what a row that has no fault leaves to be told
   pub rows_turn : (q c : ℕ) → q ≡ p + (16 + 11 + 26 * count_at bs p) → Ok c ≡ told (row_demands bs n d p m) (m + count_at bs p)
-      → told (rows_demands bs n d j p m) v ≡ told (rows_demands bs n d i q c) v
+      → told (rows_demands bs n d (n - k) p m) v ≡ told (rows_demands bs n d (n - (k + 1)) q c) v
   rows_turn q c moved read =
-      let edges = told_value (row_demands bs n d p m) (m + count_at bs p) c read in
+      let edges = told_value row (m + count_at bs p) c read in
       let next : q ≡ after_row bs p = omega arith in
-      rw (next, edges) (told_turn (rows_demands bs n d j p m) (row_demands bs n d p m) _ (m + count_at bs p) c v rows_more read)
+      rw (next, edges) (told_turn all_rows row rest_rows (m + count_at bs p) c v rows_more read)
 
-  pub rows_halt : (x : ℕ) (f : Refusal FileFault) → Err f ≡ told (row_demands bs n d p m) x → told (rows_demands bs n d j p m) v ≡ Err f
-  rows_halt x f read = told_halt (rows_demands bs n d j p m) (row_demands bs n d p m) (rows_demands bs n d i (after_row bs p) (m + count_at bs p)) x v f rows_more read
+  pub rows_halt : (x : ℕ) (f : Refusal FileFault) → Err f ≡ told (row_demands bs n d p m) x → told (rows_demands bs n d (n - k) p m) v ≡ Err f
+  rows_halt x f read = told_halt all_rows row rest_rows x v f rows_more read
