@@ -7,7 +7,7 @@ ghost use Rattle.packed_chain.specs.Meaning.{meaning_of};
 ghost use Rattle.packed_file.specs.TakenUp.{taken_up};
 
 use crate::packed_chain::PackedChain;
-use crate::rows::row_places;
+use crate::rows::find_rows;
 use bits::fields::get;
 use bits::mirror::mirror;
 use chain::Chain;
@@ -17,32 +17,28 @@ use packed_file::faultless_body;
 static BUILT_IN: [u8; 12] = [0, 0, 0, 0x40, 0, 0, 0, 2, 0, 0, 0, 0x80];
 
 /// What follows the mark in the file, or in that of the built-in chain where the file has a fault.
-fn body_or_built_in<'a>(bytes: &'a [u8]) -> &'a [u8]
+fn body_or_built_in(bytes: &[u8]) -> &[u8]
     ensures faultless { Faultless result.now }
     ensures meaning { decoded result.now ≡ taken_up bytes.now }
 {
-    match faultless_body(bytes) {
-        Ok(body) => body,
-        Err(_) => &BUILT_IN,
-    }
+    faultless_body(bytes).unwrap_or(&BUILT_IN)
 }
 
 /// The chain of a body without a fault.
-fn chain_of<'a>(body: &'a [u8]) -> PackedChain<'a>
+fn chain_of(body: &[u8]) -> PackedChain<'_>
     requires { Faultless body.now }
     ensures { result.body.now ≡ body.now }
 {
     let states = get(body, 0, 10) as usize + 1;
     let denominator = get(body, 10, 16);
     let start = get(body, 10 + 16, 10) as usize;
-    let (rows, edges) = row_places(body, states);
+    let (rows, edges) = find_rows(body, states);
     PackedChain {
         body,
-        states,
+        rows,
         edges,
         denominator,
         start,
-        rows,
     }
 }
 
@@ -61,7 +57,7 @@ impl<'a> Chain for PackedChain<'a> {
     ghost lawful = { λ t. faultless_lawful t.body.now t.faultless };
 
     fn states(&self) -> usize {
-        self.states
+        self.rows.len()
     }
 
     fn edges(&self) -> usize {

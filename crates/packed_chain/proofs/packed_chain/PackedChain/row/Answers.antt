@@ -1,16 +1,19 @@
-use Rattle.std.proofs.Common.{◌<◌, ◌≤◌, arith}
-use Rattle.packed_file.specs.Format.{states_in}
-use Rattle.packed_chain.proofs.Lookup.{found_none, found_some}
+use Rattle.std.proofs.Common.{sym, ◌∙◌, Some, None, refl}
+use Rattle.std.proofs.lemmas.Option.{slice_get_past, slice_get_read}
+use Rattle.packed_chain.proofs.Lookup.{found}
 use Rattle.packed_chain.proofs.packed_chain.PackedChain.row.Goals as goal
 
-pub returns-then-state-self : goal.returns-then-state-self
-returns-then-state-self c =
-    let e = c.args.self.now.counted in
-    let past : states_in c.args.self.now.body.now ≤ c.args.state = omega (arith, c.if-state-self.true) in
-    found_none c.args.self.now.body.now c.args.state past
+pub returns-in_err-place : goal.returns-in_err-place
+returns-in_err-place c =
+    let chain = c.args.self.now in
+    let places = c.deref.ensures.0 ∙ chain.placed in
+    let past = slice_get_past c.deref.result.now c.args.state c.in_err-place.ensures.lookup.3 in
+    rw c.from_residual.ensures (found chain.body.now c.args.state None chain.faultless (sym (rw places at past)))
 
 pub returns : goal.returns
 returns c =
-    let e = c.args.self.now.counted in
-    let lt : c.args.state < states_in c.args.self.now.body.now = omega (arith, c.if-state-self.false) in
-    found_some c.args.self.now.body.now c.args.state _ c.args.self.now.faultless lt (c.args.self.now.placed c.args.state c.if-state-self.false)
+    let chain = c.args.self.now in
+    let places = c.deref.ensures.0 ∙ chain.placed in
+    let lookup = c.in_ok-place.ensures.lookup in
+    let here = slice_get_read c.deref.result.now _ c.args.state c.in_ok-place.place.now refl lookup.3.0 lookup.1 in
+    found chain.body.now c.args.state (Some c.in_ok-place.place.now) chain.faultless (sym (rw places at here))
