@@ -65,15 +65,15 @@ field_word bs i h₀ h₁ h₂ =
     omega arith
 
 -- what the reader computes from three bytes
-pub field_read : (bs : List ℕ) (at w x y z : ℕ) → w ≤ 16 → x ≡ get_or bs (at / 8) 0 → y ≡ get_or bs (at / 8 + 1) 0 → z ≡ get_or bs (at / 8 + 2) 0 → x < 256 → y < 256 → z < 256
-    → (x * 65536 + y * 256 + z) / 2 ^ (24 - at % 8 - w) % 2 ^ w ≡ field bs at w
-field_read bs at w x y z l ex ey ez hx hy hz =
-    let word = field_word bs (at / 8) (rw ex at hx) (rw ey at hy) (rw ez at hz) in
-    let e : x * 65536 + y * 256 + z ≡ field bs (8 * (at / 8)) 24 = rw (ex, ey, ez) (sym word) in
+pub field_read : (bs : List ℕ) (at w word x y z : ℕ) → w ≤ 16 → word ≡ x * 65536 + y * 256 + z
+    → x ≡ get_or bs (at / 8) 0 → y ≡ get_or bs (at / 8 + 1) 0 → z ≡ get_or bs (at / 8 + 2) 0 → x < 256 → y < 256 → z < 256
+    → word / 2 ^ (24 - at % 8 - w) % 2 ^ w ≡ field bs at w
+field_read bs at w word x y z l e ex ey ez hx hy hz =
+    let whole : word ≡ field bs (8 * (at / 8)) 24 = rw (e, ex, ey, ez) (sym (field_word bs (at / 8) (rw ex at hx) (rw ey at hy) (rw ez at hz))) in
     let n : at % 8 + w + (24 - at % 8 - w) ≡ 24 = omega arith in
     let q : 8 * (at / 8) + at % 8 ≡ at = omega arith in
     let p = field_part bs (8 * (at / 8)) (at % 8) w (24 - at % 8 - w) in
-    rw e (rw (n, q) at p)
+    rw whole (rw (n, q) at p)
 
 -- one more bit of the value
 pub value_more : (v n : ℕ) → 0 < n → v / 2 ^ (n - 1) ≡ v / 2 ^ n * 2 + v / 2 ^ (n - 1) % 2

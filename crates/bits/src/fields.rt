@@ -4,15 +4,10 @@ ghost use Rattle.bits.specs.Fields.{field};
 ghost use Rattle.bits.specs.Wrote.{Stored, Wrote};
 
 /// The byte at a place, or 0 past the end.
-fn byte_or_zero(bytes: &[u8], place: usize) -> u32
-    ensures value { result ≡ slice_index bytes.now place }
-    ensures bound { result < 256 }
+fn byte_or_zero(bytes: &[u8], place: usize) -> u8
+    ensures { result ≡ slice_index bytes.now place }
 {
-    if place < bytes.len() {
-        bytes[place] as u32
-    } else {
-        0
-    }
+    bytes.get(place).copied().unwrap_or(0)
 }
 
 /// The number that the `width` bits from the bit `at` on write.
@@ -24,9 +19,12 @@ pub fn get(bytes: &[u8], at: usize, width: usize) -> u32
     ensures bound { result < 2 ^ width }
 {
     let first = at / 8;
-    let word = byte_or_zero(bytes, first) * 65536
-        + byte_or_zero(bytes, first + 1) * 256
-        + byte_or_zero(bytes, first + 2);
+    let word = u32::from_be_bytes([
+        0,
+        byte_or_zero(bytes, first),
+        byte_or_zero(bytes, first + 1),
+        byte_or_zero(bytes, first + 2),
+    ]);
     (word >> (24 - at % 8 - width)) % (1u32 << width)
 }
 
@@ -47,9 +45,7 @@ fn store(bytes: &mut [u8], first: usize, count: usize, word: u32)
     requires within { first + count ≤ length bytes.old }
     ensures { Stored bytes.old bytes.new first count word }
 {
-    for k in 0..count {
-        bytes[first + k] = ((word >> (8 * (count - 1 - k))) % 256) as u8;
-    }
+    bytes[first..first + count].copy_from_slice(&word.to_be_bytes()[4 - count..]);
 }
 
 /// Writes the field `value` of `width` bits at the bit `at`. The bits after it in its last byte become 0.
@@ -62,8 +58,8 @@ pub fn put(bytes: &mut [u8], at: usize, width: usize, value: u32)
 {
     let first = at / 8;
     let used = at % 8;
-    let count = (used + width + 7) / 8;
-    let head = byte_or_zero(bytes, first) >> (8 - used);
+    let count = (used + width).div_ceil(8);
+    let head = byte_or_zero(bytes, first) as u32 >> (8 - used);
     let word = joined(head, width, value, 8 * count - used - width);
     store(bytes, first, count, word);
 }
