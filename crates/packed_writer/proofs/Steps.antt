@@ -1,14 +1,16 @@
--- Writes one after another.
-use Rattle.std.proofs.Common.{◌≡◌, ℕ, ◌+◌, ◌-◌, ◌*◌, ◌<◌, ◌≤◌, List, [], ◌∷◌, ◌++◌, length, get_or, take, drop, refl, ◌∙◌, arith}
+-- Fields written one after another.
+use Rattle.std.proofs.Common.{◌≡◌, ℕ, ◌+◌, ◌*◌, ◌<◌, ◌≤◌, List, [], ◌∷◌, ◌++◌, length, get_or, take, drop, sym, refl, ap, ◌∙◌, arith}
 use Rattle.std.specs.List.{flat_map}
-use Rattle.std.proofs.lemmas.List.{take_more, take_all, flat_map_more, at_drop_more}
+use Rattle.std.proofs.lemmas.List.{take_more, take_all, take-append-drop, flat_map_more, at_drop_more}
+use Rattle.std.proofs.lemmas.Grind.{flat_map-append}
 use Rattle.bits.specs.Fields.{bit_at}
-use Rattle.bits.specs.Mirror.{mirrored}
-use Rattle.bits.specs.Wrote.{width_of, Stand, Wrote}
+use Rattle.bits.specs.Wrote.{width_of, Stand}
 use Rattle.bits.proofs.Whole.{field_same}
 use Rattle.chain.specs.Markov.{Row, Markov, edges_in}
-use Rattle.packed_file.specs.Format.{header_fields, edge_fields, row_fields}
-use Rattle.packed_writer.specs.Within.{no_row, row_of, file_bits}
+use Rattle.packed_file.specs.Format.{edge_fields, row_fields, layout}
+use Rattle.packed_writer.specs.Within.{file_bits}
+use Rattle.packed_writer.specs.Writing.{Room, Writes}
+use Rattle.packed_writer.specs.declared.bit_writer.BitWriter.{BitWriter}
 
 pub width_append : (xs ys : List (ℕ × ℕ)) → width_of (xs ++ ys) ≡ width_of xs + width_of ys
 width_append [] ys = omega arith
@@ -23,63 +25,61 @@ stand_same bs cs p [] h f = tt
 stand_same bs cs p (x ∷ xs) h f =
     (field_same cs bs p x.0 (λ j l. h (p + j) (omega arith)) ∙ f.0, stand_same bs cs (p + x.0) xs (λ j l. h j (omega arith)) f.1)
 
-pub wrote_none : (a : List ℕ) (p : ℕ) → Wrote a a p p []
-wrote_none a p = record { ends = omega arith; stand = tt; before = λ j h. refl; kept = λ i h. refl }
+pub writes_none : (w : BitWriter) → Writes w w []
+writes_none w = record { same = refl; long = refl; wrote = record { ends = omega arith; stand = tt; before = λ j h. refl; kept = λ i h. refl } }
 
-pub wrote_more : (a b c : List ℕ) (p q r : ℕ) (xs ys : List (ℕ × ℕ)) → Wrote a b p q xs → Wrote b c q r ys → Wrote a c p r (xs ++ ys)
-wrote_more a b c p q r xs ys h k =
-    let e = h.ends in
-    let f = k.ends in
+pub writes_more : {a b c : BitWriter} {xs ys : List (ℕ × ℕ)} → Writes a b xs → Writes b c ys → Writes a c (xs ++ ys)
+writes_more {a = a} {b = b} {c = c} {xs = xs} {ys = ys} h k =
+    let e = h.wrote.ends in
+    let f = k.wrote.ends in
     let w = width_append xs ys in
     record {
-      ends = omega arith;
-      stand = stand_append c p xs ys (stand_same b c p xs (λ j l. k.before j (omega arith)) h.stand) (rw e at k.stand);
-      before = λ j l. k.before j (omega arith) ∙ h.before j l;
-      kept = λ i l. k.kept i l ∙ h.kept i (omega arith);
+      same = k.same ∙ h.same;
+      long = k.long ∙ h.long;
+      wrote = record {
+        ends = omega arith;
+        stand = stand_append c.buffer.now a.at xs ys (stand_same b.buffer.now c.buffer.now a.at xs (λ j l. k.wrote.before j (omega arith)) h.wrote.stand) (rw e at k.wrote.stand);
+        before = λ j l. k.wrote.before j (omega arith) ∙ h.wrote.before j l;
+        kept = λ i l. k.wrote.kept i l ∙ h.wrote.kept i (omega arith);
+      };
     }
 
--- one more of a list
-pub wrote_next : {X : Type 0} (f : X → List (ℕ × ℕ)) (a b c : List ℕ) (p q r : ℕ) (xs : List X) (i : ℕ) (d : X) → i < length xs
-    → Wrote a b p q (flat_map f (take i xs)) → Wrote b c q r (f (get_or xs i d)) → Wrote a c p r (flat_map f (take (i + 1) xs))
-wrote_next f a b c p q r xs i d l h k =
-    let e : take (i + 1) xs ≡ take i xs ++ get_or xs i d ∷ [] = take_more xs i d l in
-    let j = flat_map_more f [] (take i xs) (get_or xs i d) in
-    rw (e, ← j) (wrote_more a b c p q r (flat_map f (take i xs)) (f (get_or xs i d)) h k)
+pub room_front : {a : BitWriter} (xs ys : List (ℕ × ℕ)) → Room a (xs ++ ys) → Room a xs
+room_front xs ys room =
+    let width = width_append xs ys in
+    let within = room.within in
+    let near = room.near in
+    record { within = omega arith; near = omega arith }
 
-pub wrote_all : {X : Type 0} (f : X → List (ℕ × ℕ)) (a b : List ℕ) (p q : ℕ) (xs : List X) (i : ℕ) → length xs ≤ i → Wrote a b p q (flat_map f (take i xs)) → Wrote a b p q (flat_map f xs)
-wrote_all f a b p q xs i l h = let e = take_all i xs l in rw e at h
+pub room_more : {a b : BitWriter} {xs ys : List (ℕ × ℕ)} → Room a (xs ++ ys) → Writes a b xs → Room b ys
+room_more {xs = xs} {ys = ys} room h =
+    let width = width_append xs ys in
+    let ends = h.wrote.ends in
+    let long = h.long in
+    let within = room.within in
+    let near = room.near in
+    record { within = omega arith; near = omega arith }
 
-pub wrote_to : (a b : List ℕ) (p q q' : ℕ) (fs : List (ℕ × ℕ)) → q ≡ q' → Wrote a b p q fs → Wrote a b p q' fs
-wrote_to a b p q q' fs e h = rw e at h
+-- the fields of a list's elements, up to the one at i
+module _ {X : Type 0} (f : X → List (ℕ × ℕ)) (xs : List X) (i : ℕ) (d : X) where
+  pub room_next : {a b : BitWriter} → i < length xs → Room a (flat_map f xs) → Writes a b (flat_map f (take i xs)) → Room b (f (get_or xs i d))
+  room_next l room h =
+      let all : width_of (flat_map f (take i xs) ++ flat_map f (drop i xs)) ≡ width_of (flat_map f xs) =
+      ap width_of (sym (flat_map-append f (take i xs) (drop i xs))) ∙ ap (λ ys. width_of (flat_map f ys)) (take-append-drop i xs) in
+      let front = width_append (flat_map f (take i xs)) (flat_map f (drop i xs)) in
+      let rest = at_drop_more (λ ys. width_of (flat_map f ys)) xs i d l in
+      let next = width_append (f (get_or xs i d)) (flat_map f (drop (i + 1) xs)) in
+      let ends = h.wrote.ends in
+      let long = h.long in
+      let within = room.within in
+      let near = room.near in
+      record { within = omega arith; near = omega arith }
 
-pub edges_next : (a b c : List ℕ) (first k : ℕ) (es : List (ℕ × ℕ)) (e : ℕ × ℕ) → k < length es → e ≡ get_or es k (0, 0)
-    → Wrote a b first (first + 26 * k) (flat_map edge_fields (take k es)) → Wrote b c (first + 26 * k) (first + 26 * k + 26) (edge_fields e)
-    → Wrote a c first (first + 26 * (k + 1)) (flat_map edge_fields (take (k + 1) es))
-edges_next a b c first k es e lt q h w =
-    let q' : first + 26 * k + 26 ≡ first + 26 * (k + 1) = omega arith in
-    rw q' at (wrote_next edge_fields a b c first (first + 26 * k) (first + 26 * k + 26) es k (0, 0) lt h (rw q at w))
+  pub writes_next : {a b c : BitWriter} → i < length xs → Writes a b (flat_map f (take i xs)) → Writes b c (f (get_or xs i d)) → Writes a c (flat_map f (take (i + 1) xs))
+  writes_next l h k = rw (take_more xs i d l, ← flat_map_more f [] (take i xs) (get_or xs i d)) (writes_more h k)
 
-pub room_row : (m : Markov) (s at : ℕ) → s < length m.rows
-    → at + 27 * (length m.rows - s) + 26 * edges_in (drop s m.rows) ≡ file_bits m
-    → at + 16 + 11 + 26 * length (row_of m s).edges + 27 * (length m.rows - (s + 1)) + 26 * edges_in (drop (s + 1) m.rows) ≡ file_bits m
-room_row m s at h e = let q = at_drop_more edges_in m.rows s no_row h in omega arith
-
-pub row_wrote : (a b c d : List ℕ) (at v n : ℕ) (r : Row) → v ≡ mirrored 16 r.propositions → n ≡ length r.edges
-    → Wrote a b at (at + 16) ((16, v) ∷ []) → Wrote b c (at + 16) (at + 16 + 11) ((11, n) ∷ [])
-    → Wrote c d (at + 16 + 11) (at + 16 + 11 + 26 * length r.edges) (flat_map edge_fields r.edges)
-    → Wrote a d at (at + 16 + 11 + 26 * n) (row_fields r)
-row_wrote a b c d at v n r ev en h k l =
-    let letters = mirrored 16 r.propositions in
-    let counted = wrote_more b c d (at + 16) (at + 16 + 11) _ ((11, length r.edges) ∷ []) (flat_map edge_fields r.edges) (rw en at k) l in
-    rw en (wrote_more a b d at (at + 16) _ ((16, letters) ∷ []) ((11, length r.edges) ∷ flat_map edge_fields r.edges) (rw ev at h) counted)
-
-pub header_wrote : (a b c d e : List ℕ) (m : Markov) (n t s : ℕ) → n ≡ length m.rows → t ≡ m.denominator → s ≡ m.start
-    → Wrote a b 0 16 ((16, 0xFEFF) ∷ []) → Wrote b c 16 26 ((10, n - 1) ∷ []) → Wrote c d 26 42 ((16, t) ∷ []) → Wrote d e 42 52 ((10, s) ∷ [])
-    → Wrote a e 0 52 ((16, 0xFEFF) ∷ header_fields m)
-header_wrote a b c d e m n t s en et es h k l o =
-    wrote_more a b e 0 16 52 ((16, 0xFEFF) ∷ []) (header_fields m) h
-    (wrote_more b c e 16 26 52 ((10, length m.rows - 1) ∷ []) ((16, m.denominator) ∷ (10, m.start) ∷ []) (rw en at k)
-    (wrote_more c d e 26 42 52 ((16, m.denominator) ∷ []) ((10, m.start) ∷ []) (rw et at l) (rw es at o)))
+  pub writes_all : {a b : BitWriter} → length xs ≤ i → Writes a b (flat_map f (take i xs)) → Writes a b (flat_map f xs)
+  writes_all l h = let e = take_all i xs l in rw e at h
 
 -- how wide the rows are
 width_edges : (es : List (ℕ × ℕ)) → width_of (flat_map edge_fields es) ≡ 26 * length es
@@ -94,5 +94,5 @@ width_rows (r ∷ rs) =
     let c = width_rows rs in
     omega arith
 
-pub rows_wrote_end : (a b : List ℕ) (m : Markov) (q : ℕ) → Wrote a b (16 + 36) q (flat_map row_fields m.rows) → q ≡ file_bits m
-rows_wrote_end a b m q h = let r = width_rows m.rows in let e = h.ends in omega arith
+pub width_layout : (m : Markov) → 16 + width_of (layout m) ≡ file_bits m
+width_layout m = let r = width_rows m.rows in omega arith

@@ -1,3 +1,4 @@
 pub mod Number
 pub mod Within
+pub mod Writing
 pub mod Written

@@ -1,24 +1,25 @@
 //! A whole file.
-ghost use Rattle.std.specs.Prelude.{◌+◌, ◌*◌, ◌≤◌, ◌∷◌, length};
-ghost use Rattle.bits.specs.Wrote.{Wrote};
+ghost use Rattle.std.specs.Prelude.{◌≡◌, ◌∷◌};
 ghost use Rattle.packed_file.specs.Format.{header_fields};
+ghost use Rattle.packed_writer.specs.Writing.{Room, Writes};
 ghost use Rattle.packed_writer.specs.Written.{Written, ReadBack};
 
+use crate::bit_writer::BitWriter;
 use crate::fault::WriteFault;
-use crate::rows::put_rows;
-use bits::fields::put;
 use chain::Chain;
-use refusal::Refusal;
+use refusal::{Refusal, demand};
 
-/// Writes the mark and the header.
-fn put_header<C: Chain>(chain: &C, buffer: &mut [u8])
-    requires { 16 + 36 ≤ 8 * length buffer.old }
-    ensures { Wrote buffer.old buffer.new 0 (16 + 36) ((16, 0xFEFF) ∷ header_fields (C.Chain.meaning chain.now)) }
-{
-    put(buffer, 0, 16, 0xFEFF);
-    put(buffer, 16, 10, chain.states() as u32 - 1);
-    put(buffer, 26, 16, chain.denominator());
-    put(buffer, 42, 10, chain.start() as u32);
+impl BitWriter<'_> {
+    /// Writes the mark and the header.
+    fn put_header<C: Chain>(&mut self, chain: &C)
+        requires { Room self.old ((16, 0xFEFF) ∷ header_fields (C.Chain.meaning chain.now)) }
+        ensures { Writes self.old self.new ((16, 0xFEFF) ∷ header_fields (C.Chain.meaning chain.now)) }
+    {
+        self.put(16, 0xFEFF);
+        self.put(10, chain.states() as u32 - 1);
+        self.put(16, chain.denominator());
+        self.put(10, chain.start() as u32);
+    }
 }
 
 /// Writes the file of a chain to the front of the buffer, and answers how many bytes it has.
@@ -27,15 +28,11 @@ pub fn write<C: Chain>(chain: &C, buffer: &mut [u8]) -> Result<usize, Refusal<Wr
     ensures read_back { ReadBack (C.Chain.meaning chain.now) buffer.new result }
 {
     let bits = 16 + 36 + 27 * chain.states() + 26 * chain.edges();
-    let length = (bits + 7) / 8;
-    if length > buffer.len() {
-        return Err(Refusal {
-            fault: WriteFault::BufferTooShort,
-            place: 0,
-        });
-    }
-    put_header(chain, buffer);
-    let end = put_rows(chain, buffer);
-    put(buffer, end, 8 * length - end, 0);
+    let length = bits.div_ceil(8);
+    demand(length <= buffer.len(), WriteFault::BufferTooShort, 0)?;
+    let mut file = BitWriter::new(buffer);
+    file.put_header(chain);
+    file.put_rows(chain);
+    file.put(8 * length - bits, 0);
     Ok(length)
 }

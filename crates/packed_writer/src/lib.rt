@@ -1,7 +1,8 @@
 //! The packed file of any chain, written into a caller's buffer.
 #![tactic(auto)]
 
-mod asked;
+mod bit_writer;
+mod chain_row;
 mod fault;
 mod file;
 mod rows;
