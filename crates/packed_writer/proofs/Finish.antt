@@ -1,5 +1,6 @@
 -- The front of a buffer into which a chain's fields were written is the chain's file.
-use Rattle.std.proofs.Common.{subst, ◌≡◌, ℕ, Bool, true, false, cond, nat_le, Err, zero, suc, ◌+◌, ◌-◌, ◌*◌, ◌/◌, ◌%◌, ◌<◌, ◌≤◌, List, [], ◌∷◌, ◌++◌, length, take, drop, Ok, sym, refl, ap, ◌∙◌, arith, length-append}
+use Rattle.std.proofs.Common.{subst, ◌≡◌, ℕ, Bool, true, false, cond, nat_le, Err, Result, zero, suc, ◌+◌, ◌-◌, ◌*◌, ◌/◌, ◌%◌, ◌<◌, ◌≤◌, List, [], ◌∷◌, ◌++◌, length, take, drop, Ok, sym, refl, ap, ◌∙◌, arith, length-append}
+use Rattle.std.specs.Int.{div_ceil}
 use Rattle.std.specs.List.{flat_map}
 use Rattle.std.proofs.lemmas.List.{get_or-take, get_or-drop, length-take-le, length-drop, ext_get_or, take-append-drop}
 use Rattle.refusal.specs.declared.Refusal.{Refusal}
@@ -9,18 +10,17 @@ use Rattle.std.proofs.lemmas.Bool.{leb-true, leb-false}
 use Rattle.bits.specs.Fields.{field, bit_at}
 use Rattle.bits.specs.Wrote.{width_of, Stand}
 use Rattle.bits.proofs.Whole.{field_append, field_byte}
-use Rattle.chain.specs.Markov.{Markov, Lawful}
+use Rattle.chain.specs.Markov.{Markov, Lawful, edges_in}
 use Rattle.packed_file.specs.Format.{layout, header_fields, row_fields, bits, all_bits, encode}
 use Rattle.packed_file.proofs.Judged.{encoded_judged, encoded_taken_up}
 use Rattle.packed_file.proofs.Holding.{Holds, Bytes}
 use Rattle.packed_file.proofs.Files.{length_bits, length_bytes_from, holds_packed}
-use Rattle.packed_writer.specs.Within.{file_bits}
 use Rattle.packed_writer.specs.Written.{Written, ReadBack}
 use Rattle.packed_writer.specs.declared.fault.WriteFault.{WriteFault}
 use Rattle.packed_writer.specs.declared.fault.WriteFault.TheVariants.{BufferTooShort}
 use Rattle.packed_writer.specs.Writing.{Room, Writes}
 use Rattle.packed_writer.specs.declared.bit_writer.BitWriter.{BitWriter}
-use Rattle.packed_writer.proofs.Steps.{width_append, width_layout, stand_same, room_front, room_more, writes_more}
+use Rattle.packed_writer.proofs.Steps.{file_bits, width_append, width_layout, stand_same, room_front, room_more, writes_more}
 
 length_all : (fs : List (ℕ × ℕ)) → length (all_bits fs) ≡ width_of fs
 length_all [] = refl
@@ -87,64 +87,78 @@ marked_body (x ∷ y ∷ body) m law small len h =
     let same = holds_packed body m (λ i l. small (suc (suc i)) (omega arith)) law holds in
     rw (mark.0, mark.1, same)
 
--- the fields of a file with n bits in k bytes: those of the chain, and what fills the last byte
-abbrev file_fields : Markov → ℕ → ℕ → List (ℕ × ℕ)
-file_fields m n k = ((16, 0xFEFF) ∷ layout m) ++ (8 * k - n, 0) ∷ []
-
-broken : {F : Type 0} (b : Bool) (f : Refusal F) (e : Refusal F) → cond b (Ok (tt {0})) (Err f) ≡ Err e → (b ≡ false) × (e ≡ f)
+broken : {F : Type 0} (b : Bool) (f e : Refusal F) → cond b (Ok (tt {0})) (Err f) ≡ Err e → (b ≡ false) × (e ≡ f)
 broken true f e h = ok_err h
 broken false f e h = (refl, cc)
 
--- a buffer that is too short is refused as it is
-pub refused : (m : Markov) (before : List ℕ) (k : ℕ) (e : Refusal WriteFault) → k ≡ (file_bits m + 7) / 8
-    → Err e ≡ told (demand (nat_le k (length before)) BufferTooShort 0 ∷ []) (tt {0}) → Written m before before (Err e)
-refused m before k e ek h =
-    let b = broken (nat_le k (length before)) (record { fault = BufferTooShort; place = 0 }) e (sym h) in
-    let short = leb-false k (length before) b.0 in
-    let n = length_encode m in
-    (b.1, omega arith, refl)
+-- what the writer asks of a buffer for a file of k bytes
+abbrev asked : ℕ → List ℕ → Result (Unit {0}) (Refusal WriteFault)
+asked k before = told (demand (nat_le k (length before)) BufferTooShort 0 ∷ []) tt
 
-module _ (m : Markov) (law : Lawful m) (n k : ℕ) (en : n ≡ file_bits m) (ek : k ≡ (n + 7) / 8) {before : List ℕ} (a : BitWriter) (front : a.at ≡ 0) (bytes : a.buffer.now ≡ before)
-    (enough : Ok (tt {0}) ≡ told (demand (nat_le k (length before)) BufferTooShort 0 ∷ []) (tt {0})) where
-  room : k ≤ length a.buffer.now
-  room = rw bytes (leb-true k (length before) (told_ok (demand (nat_le k (length before)) BufferTooShort 0 ∷ []) (tt {0}) (tt {0}) (sym enough)).1.0)
+-- what it writes: the chain's fields, n bits, and what fills the last of k bytes
+abbrev file_fields : Markov → ℕ → ℕ → List (ℕ × ℕ)
+file_fields m n k = ((16, 0xFEFF) ∷ layout m) ++ (8 * k - n, 0) ∷ []
 
-  room_file : Room a (file_fields m n k)
-  room_file =
-      let width = width_layout m in
-      let all = width_append ((16, 0xFEFF) ∷ layout m) ((8 * k - n, 0) ∷ []) in
-      let few = law.few in
-      let sparse = law.sparse in
-      let r = room in
-      record { within = omega arith; near = omega arith }
+module _ {m : Markov} (law : Lawful m) {s t k : ℕ} (states : s ≡ length m.rows) (edges : t ≡ edges_in m.rows) (bytes : k ≡ div_ceil (16 + 36 + 27 * s + 26 * t) 8) where
+  long_file : k ≡ (file_bits m + 7) / 8
+  long_file = omega (arith, states, edges, bytes)
 
-  pub room_rows : {b : BitWriter} → Writes a b ((16, 0xFEFF) ∷ header_fields m) → Room b (flat_map row_fields m.rows)
-  room_rows h = room_front (flat_map row_fields m.rows) ((8 * k - n, 0) ∷ []) (room_more room_file h)
+  -- a buffer that is too short is refused as it is
+  pub refused : (before : List ℕ) (e : Refusal WriteFault) → Err e ≡ asked k before → Written m before before (Err e)
+  refused before e h =
+      let b = broken (nat_le k (length before)) (record { fault = BufferTooShort; place = 0 }) e (sym h) in
+      let short = leb-false k (length before) b.0 in
+      let n = length_encode m in
+      let l = long_file in
+      (b.1, omega arith, refl)
 
-  pub room_fill : {b c : BitWriter} → Writes a b ((16, 0xFEFF) ∷ header_fields m) → Writes b c (flat_map row_fields m.rows) → Room c ((8 * k - n, 0) ∷ [])
-  room_fill h r = room_more room_file (writes_more h r)
+  module _ {before : List ℕ} (a : BitWriter) (front : a.at ≡ 0) (same_before : a.buffer.now ≡ before) (enough : Ok (tt {0}) ≡ asked k before) where
+    room : k ≤ length a.buffer.now
+    room = rw same_before (leb-true k (length before) (told_ok (demand (nat_le k (length before)) BufferTooShort 0 ∷ []) (tt {0}) (tt {0}) (sym enough)).1.0)
 
-  written : {b : BitWriter} → Bytes b.buffer.now → Writes a b (file_fields m n k) → Written m a.buffer.now b.buffer.now (Ok k) × ReadBack m b.buffer.now (Ok k)
-  written {b = b} small h =
-      let after = b.buffer.now in
-      let r = room in
-      let ends = h.wrote.ends in
-      let long = h.long in
-      let width = width_layout m in
-      let all = width_append ((16, 0xFEFF) ∷ layout m) ((8 * k - n, 0) ∷ []) in
-      let len : length (take k after) ≡ k = length-take-le k after (omega arith) in
-      let stands = stand_same after (take k after) 0 (file_fields m n k) (λ j l. take_bit after k j (omega arith)) (rw front at h.wrote.stand) in
-      let e : 8 * k - n ≡ 8 * length (take k after) - file_bits m = omega arith in
-      let small_front : Bytes (take k after) = λ i l. let l' : i < k = omega arith in rw (get_or-take k after i 0 l') (small i (omega arith)) in
-      let same : take k after ≡ encode m = marked_body (take k after) m law small_front (omega arith) (rw e at stands) in
-      let rest : drop k after ≡ drop k a.buffer.now = ext_get_or 0 (drop k after) (drop k a.buffer.now) (simp length-drop (omega arith))
-      (λ i l. rw (get_or-drop k after i 0, get_or-drop k a.buffer.now i 0) (h.wrote.kept (k + i) (omega arith))) in
-      ((sym len ∙ ap length same, sym (take-append-drop k after) ∙ rw (same, rest)), rw same (encoded_judged m law, encoded_taken_up m law))
+    width_file : 16 + width_of (layout m ++ (8 * k - (16 + 36 + 27 * s + 26 * t), 0) ∷ []) ≡ 8 * k
+    width_file =
+        let width = width_layout m in
+        let all = width_append (layout m) ((8 * k - (16 + 36 + 27 * s + 26 * t), 0) ∷ []) in
+        let l = long_file in
+        omega arith
 
-  -- what is left where the fields of a file were written from the front on
-  pub written_back : {after : List ℕ} {b c d : BitWriter} → Writes a b ((16, 0xFEFF) ∷ header_fields m) → Writes b c (flat_map row_fields m.rows) → Writes c d ((8 * k - n, 0) ∷ [])
-      → after ≡ d.buffer.now → Bytes after → Written m before after (Ok k) × ReadBack m after (Ok k)
-  written_back {after = after} {d = d} h r f same small =
-      let P : List ℕ → Type 0 = λ x. Written m x after (Ok k) × ReadBack m after (Ok k) in
-      let Q : List ℕ → Type 0 = λ y. (Bytes y → Written m a.buffer.now y (Ok k) × ReadBack m y (Ok k)) in
-      subst P bytes (subst Q (sym same) (λ s. written {b = d} s (writes_more (writes_more h r) f)) small)
+    room_file : Room a (file_fields m (16 + 36 + 27 * s + 26 * t) k)
+    room_file =
+        let width = width_file in
+        let few = law.few in
+        let sparse = law.sparse in
+        let r = room in
+        let l = long_file in
+        record { within = omega arith; near = omega arith }
+
+    pub room_rows : {b : BitWriter} → Writes a b ((16, 0xFEFF) ∷ header_fields m) → Room b (flat_map row_fields m.rows)
+    room_rows h = room_front (flat_map row_fields m.rows) ((8 * k - (16 + 36 + 27 * s + 26 * t), 0) ∷ []) (room_more room_file h)
+
+    pub room_fill : {b c : BitWriter} → Writes a b ((16, 0xFEFF) ∷ header_fields m) → Writes b c (flat_map row_fields m.rows) → Room c ((8 * k - (16 + 36 + 27 * s + 26 * t), 0) ∷ [])
+    room_fill h r = room_more room_file (writes_more h r)
+
+    written : {b : BitWriter} → Bytes b.buffer.now → Writes a b (file_fields m (16 + 36 + 27 * s + 26 * t) k) → Written m a.buffer.now b.buffer.now (Ok k) × ReadBack m b.buffer.now (Ok k)
+    written {b = b} small h =
+        let after = b.buffer.now in
+        let r = room in
+        let l = long_file in
+        let long = h.long in
+        let width = width_file in
+        let ends = h.wrote.ends in
+        let len : length (take k after) ≡ k = length-take-le k after (omega arith) in
+        let stands = stand_same after (take k after) 0 (file_fields m (16 + 36 + 27 * s + 26 * t) k) (λ j l. take_bit after k j (omega arith)) (rw front at h.wrote.stand) in
+        let e : 8 * k - (16 + 36 + 27 * s + 26 * t) ≡ 8 * length (take k after) - file_bits m = omega arith in
+        let small_front : Bytes (take k after) = λ i l. let l' : i < k = omega arith in rw (get_or-take k after i 0 l') (small i (omega arith)) in
+        let same : take k after ≡ encode m = marked_body (take k after) m law small_front (omega arith) (rw e at stands) in
+        let rest : drop k after ≡ drop k a.buffer.now = ext_get_or 0 (drop k after) (drop k a.buffer.now) (simp length-drop (omega arith))
+        (λ i l. rw (get_or-drop k after i 0, get_or-drop k a.buffer.now i 0) (h.wrote.kept (k + i) (omega arith))) in
+        ((sym len ∙ ap length same, sym (take-append-drop k after) ∙ rw (same, rest)), rw same (encoded_judged m law, encoded_taken_up m law))
+
+    -- what is left where a file was written from the front on
+    pub written_back : {after : List ℕ} {b c d : BitWriter} → Writes a b ((16, 0xFEFF) ∷ header_fields m) → Writes b c (flat_map row_fields m.rows)
+        → Writes c d ((8 * k - (16 + 36 + 27 * s + 26 * t), 0) ∷ []) → after ≡ d.buffer.now → Bytes after → Written m before after (Ok k) × ReadBack m after (Ok k)
+    written_back {after = after} {d = d} h r f same small =
+        let P : List ℕ → Type 0 = λ x. Written m x after (Ok k) × ReadBack m after (Ok k) in
+        let Q : List ℕ → Type 0 = λ y. (Bytes y → Written m a.buffer.now y (Ok k) × ReadBack m y (Ok k)) in
+        subst P same_before (subst Q (sym same) (λ b. written {b = d} b (writes_more (writes_more h r) f)) small)

@@ -1,3 +1,3 @@
+pub mod Bounds
 pub mod Finish
-pub mod Inside
 pub mod Steps

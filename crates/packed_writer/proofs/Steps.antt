@@ -1,14 +1,13 @@
 -- Fields written one after another.
-use Rattle.std.proofs.Common.{◌≡◌, ℕ, ◌+◌, ◌*◌, ◌<◌, ◌≤◌, List, [], ◌∷◌, ◌++◌, length, get_or, take, drop, sym, refl, ap, ◌∙◌, arith}
+use Rattle.std.proofs.Common.{◌≡◌, ℕ, ◌+◌, ◌*◌, ◌<◌, List, [], ◌∷◌, ◌++◌, length, get_or, take, drop, sym, refl, ap, ◌∙◌, arith}
 use Rattle.std.specs.List.{flat_map}
-use Rattle.std.proofs.lemmas.List.{take_more, take_all, take-append-drop, flat_map_more, at_drop_more}
+use Rattle.std.proofs.lemmas.List.{take_more, take-append-drop, flat_map_more, at_drop_more}
 use Rattle.std.proofs.lemmas.Grind.{flat_map-append}
 use Rattle.bits.specs.Fields.{bit_at}
 use Rattle.bits.specs.Wrote.{width_of, Stand}
 use Rattle.bits.proofs.Whole.{field_same}
 use Rattle.chain.specs.Markov.{Row, Markov, edges_in}
 use Rattle.packed_file.specs.Format.{edge_fields, row_fields, layout}
-use Rattle.packed_writer.specs.Within.{file_bits}
 use Rattle.packed_writer.specs.Writing.{Room, Writes}
 use Rattle.packed_writer.specs.declared.bit_writer.BitWriter.{BitWriter}
 
@@ -25,16 +24,13 @@ stand_same bs cs p [] h f = tt
 stand_same bs cs p (x ∷ xs) h f =
     (field_same cs bs p x.0 (λ j l. h (p + j) (omega arith)) ∙ f.0, stand_same bs cs (p + x.0) xs (λ j l. h j (omega arith)) f.1)
 
-pub writes_none : (w : BitWriter) → Writes w w []
-writes_none w = record { same = refl; long = refl; wrote = record { ends = omega arith; stand = tt; before = λ j h. refl; kept = λ i h. refl } }
-
 pub writes_more : {a b c : BitWriter} {xs ys : List (ℕ × ℕ)} → Writes a b xs → Writes b c ys → Writes a c (xs ++ ys)
 writes_more {a = a} {b = b} {c = c} {xs = xs} {ys = ys} h k =
     let e = h.wrote.ends in
     let f = k.wrote.ends in
     let w = width_append xs ys in
     record {
-      same = k.same ∙ h.same;
+      same_reference = k.same_reference ∙ h.same_reference;
       long = k.long ∙ h.long;
       wrote = record {
         ends = omega arith;
@@ -78,9 +74,6 @@ module _ {X : Type 0} (f : X → List (ℕ × ℕ)) (xs : List X) (i : ℕ) (d :
   pub writes_next : {a b c : BitWriter} → i < length xs → Writes a b (flat_map f (take i xs)) → Writes b c (f (get_or xs i d)) → Writes a c (flat_map f (take (i + 1) xs))
   writes_next l h k = rw (take_more xs i d l, ← flat_map_more f [] (take i xs) (get_or xs i d)) (writes_more h k)
 
-  pub writes_all : {a b : BitWriter} → length xs ≤ i → Writes a b (flat_map f (take i xs)) → Writes a b (flat_map f xs)
-  writes_all l h = let e = take_all i xs l in rw e at h
-
 -- how wide the rows are
 width_edges : (es : List (ℕ × ℕ)) → width_of (flat_map edge_fields es) ≡ 26 * length es
 width_edges [] = refl
@@ -93,6 +86,10 @@ width_rows (r ∷ rs) =
     let b = width_edges r.edges in
     let c = width_rows rs in
     omega arith
+
+-- the bits of a chain's file, but for those that fill its last byte
+abbrev pub file_bits : Markov → ℕ
+file_bits m = 16 + 36 + 27 * length m.rows + 26 * edges_in m.rows
 
 pub width_layout : (m : Markov) → 16 + width_of (layout m) ≡ file_bits m
 width_layout m = let r = width_rows m.rows in omega arith

@@ -10,6 +10,6 @@ pub record Room (w : BitWriter) (fs : List (ℕ × ℕ)) : Type 0 where
 
 -- the writer wrote these fields into its buffer, and stands behind them
 pub record Writes (before after : BitWriter) (fs : List (ℕ × ℕ)) : Type 0 where
-  pub same : after.buffer.ghost_name ≡ before.buffer.ghost_name
+  pub same_reference : after.buffer.ghost_name ≡ before.buffer.ghost_name
   pub long : length after.buffer.now ≡ length before.buffer.now
   pub wrote : Wrote before.buffer.now after.buffer.now before.at after.at fs

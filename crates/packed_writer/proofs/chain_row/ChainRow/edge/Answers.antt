@@ -1,5 +1,5 @@
 use Rattle.std.proofs.Common.{sym, ◌∙◌}
-use Rattle.packed_writer.proofs.Inside.{edge_small}
+use Rattle.packed_writer.proofs.Bounds.{edge_small}
 use Rattle.packed_writer.proofs.chain_row.ChainRow.edge.Goals as goal
 
 pub returns-clause-bound : goal.returns-clause-bound

@@ -1,5 +1,5 @@
 use Rattle.std.proofs.Common.{sym, ◌∙◌}
-use Rattle.packed_writer.proofs.Inside.{degree_small}
+use Rattle.packed_writer.proofs.Bounds.{degree_small}
 use Rattle.packed_writer.proofs.chain_row.ChainRow.edge_count.Goals as goal
 
 pub returns-clause-bound : goal.returns-clause-bound
