@@ -1,26 +1,20 @@
 //! Files for the tests, written a bit at a time, with one field changed.
 use std::alloc::{AllocError, Global};
 
-/// The field that begins at the bit `place` holds `value` in place of its own.
+/// The field that begins at that bit holds that value in place of its own.
 #[derive(Clone, Copy)]
-pub(crate) struct Change {
-    pub(crate) place: usize,
-    pub(crate) value: u32,
-}
-
-/// A place at which no field begins: nothing is changed.
-pub(crate) const UNCHANGED: Change = Change { place: 1, value: 0 };
+pub(crate) struct Change(pub(crate) usize, pub(crate) usize);
 
 #[derive(Drop)]
 struct Draft {
     bytes: Vec<u8>,
     byte: u8,
     at: usize,
-    change: Change,
+    change: Option<Change>,
 }
 
 impl Draft {
-    fn new(heap: Global, change: Change) -> Draft {
+    fn new(heap: Global, change: Option<Change>) -> Draft {
         Draft {
             bytes: Vec::new(heap),
             byte: 0,
@@ -30,8 +24,7 @@ impl Draft {
     }
 
     fn bit(&mut self, bit: bool) -> Result<(), AllocError> {
-        let bit = if bit { 1 } else { 0 };
-        self.byte = (self.byte & 127) * 2 + bit;
+        self.byte = (self.byte & 127) * 2 + u8::from(bit);
         self.at = self.at.wrapping_add(1);
         if self.at % 8 == 0 {
             self.bytes.push(self.byte)?;
@@ -39,33 +32,33 @@ impl Draft {
         Ok(())
     }
 
-    fn field(&mut self, width: u32, value: u32) -> Result<(), AllocError> {
-        let value = if self.at == self.change.place {
-            self.change.value
-        } else {
-            value
+    fn field(&mut self, width: u32, value: usize) -> Result<(), AllocError> {
+        let value = match self.change {
+            Some(Change(place, changed)) if place == self.at => changed,
+            _ => value,
         };
-        for k in 0..width {
-            let shifted = value.checked_shr(width - 1 - k).unwrap_or(0);
+        for shift in (0..width).rev() {
+            let shifted = value.checked_shr(shift).unwrap_or(0);
             self.bit(shifted % 2 == 1)?;
         }
         Ok(())
     }
 
-    fn header(&mut self, states: u32, denominator: u32, start: u32) -> Result<(), AllocError> {
+    fn header(
+        &mut self,
+        states: usize,
+        denominator: usize,
+        start: usize,
+    ) -> Result<(), AllocError> {
         self.field(16, 0xFEFF)?;
         self.field(10, states.wrapping_sub(1))?;
         self.field(16, denominator)?;
         self.field(10, start)
     }
 
-    fn row(&mut self, propositions: u32, edges: &[(u32, u32)]) -> Result<(), AllocError> {
+    fn row(&mut self, propositions: usize, edges: &[(usize, usize)]) -> Result<(), AllocError> {
         self.field(16, propositions)?;
-        let mut count = 0u32;
-        for _ in edges {
-            count = count.wrapping_add(1);
-        }
-        self.field(11, count)?;
+        self.field(11, edges.len())?;
         for (target, weight) in edges {
             self.field(10, *target)?;
             self.field(16, *weight)?;
@@ -75,23 +68,15 @@ impl Draft {
 
     /// Zero bits up to the next byte.
     fn filled(mut self) -> Result<Vec<u8>, AllocError> {
-        for _ in 0..7 {
-            if self.at % 8 != 0 {
-                self.bit(false)?;
-            }
+        for _ in 0..(8 - self.at % 8) % 8 {
+            self.bit(false)?;
         }
-        let Draft {
-            bytes,
-            byte: _,
-            at: _,
-            change: _,
-        } = self;
-        Ok(bytes)
+        Ok(self.bytes)
     }
 }
 
 /// One state with the proposition b and an edge to itself, out of 1.
-pub(crate) fn one_state(heap: Global, change: Change) -> Result<Vec<u8>, AllocError> {
+pub(crate) fn one_state(heap: Global, change: Option<Change>) -> Result<Vec<u8>, AllocError> {
     let mut file = Draft::new(heap, change);
     file.header(1, 1, 0)?;
     file.row(0x4000, &[(0, 1)])?;
@@ -99,7 +84,7 @@ pub(crate) fn one_state(heap: Global, change: Change) -> Result<Vec<u8>, AllocEr
 }
 
 /// Four states, nine edges, out of 10.
-pub(crate) fn four_states(heap: Global, change: Change) -> Result<Vec<u8>, AllocError> {
+pub(crate) fn four_states(heap: Global, change: Option<Change>) -> Result<Vec<u8>, AllocError> {
     let mut file = Draft::new(heap, change);
     file.header(4, 10, 0)?;
     file.row(0x8000, &[(1, 6), (2, 1), (3, 3)])?;
@@ -110,7 +95,7 @@ pub(crate) fn four_states(heap: Global, change: Change) -> Result<Vec<u8>, Alloc
 }
 
 /// 1,024 states with four edges each: as many states and edges as a chain can have.
-pub(crate) fn largest(heap: Global, change: Change) -> Result<Vec<u8>, AllocError> {
+pub(crate) fn largest(heap: Global, change: Option<Change>) -> Result<Vec<u8>, AllocError> {
     let mut file = Draft::new(heap, change);
     file.header(1024, 65_535, 1023)?;
     for _ in 0..1024 {
@@ -120,7 +105,7 @@ pub(crate) fn largest(heap: Global, change: Change) -> Result<Vec<u8>, AllocErro
 }
 
 /// The first four of 1,024 states, with an edge to every state each.
-pub(crate) fn widest_rows(heap: Global, change: Change) -> Result<Vec<u8>, AllocError> {
+pub(crate) fn widest_rows(heap: Global, change: Option<Change>) -> Result<Vec<u8>, AllocError> {
     let mut file = Draft::new(heap, change);
     file.header(1024, 65_535, 0)?;
     for _ in 0..4 {

@@ -1,21 +1,12 @@
 //! Every fault, at the first and the last place where it can arise.
 use crate::draft::{Change, four_states, largest, one_state, widest_rows};
 use crate::faults::End::*;
-use crate::faults::Shape::*;
 use packed_file::FileFault::*;
 use packed_file::{FileFault, check as check_file};
-use refusal::Refusal;
+use refusal::{Fault, Refusal};
 use std::alloc::{AllocError, Global};
 use std::process::Abort;
 use std::test::Fail;
-
-#[derive(Clone, Copy)]
-enum Shape {
-    OneState,
-    FourStates,
-    Largest,
-    WidestRows,
-}
 
 #[derive(Clone, Copy)]
 enum End {
@@ -39,45 +30,74 @@ const FOURTH: usize = 52 + 3 * (27 + 26 * 1024) + 16;
 
 const FOURTH_END: usize = FOURTH + 11 + 26 * 1024;
 
-/// A shape, the place of a field that is changed and its value, the file's end; and the fault, its number and its place.
-type Case = (Shape, usize, u32, End, FileFault, u32, usize);
+/// What is changed, and how the file ends; the fault, its number and its place.
+type Case = (Option<Change>, End, FileFault, u32, usize);
 
-// No field begins at bit 1: there nothing is changed.
-const CASES: [Case; 24] = [
-    (OneState, 1, 0, WithoutLastByte, EndsInField, 3, 89),
-    (WidestRows, 1, 0, Whole, EndsInField, 3, FOURTH_END),
-    (Largest, 1, 0, WithoutLastByte, EndsInField, 3, LAST_WEIGHT),
-    (OneState, 26, 0, Whole, ZeroDenominator, 4, 26),
-    (Largest, 26, 0, Whole, ZeroDenominator, 4, 26),
-    (OneState, 42, 1, Whole, StartOutside, 5, 42),
-    (Largest, 16, 1022, Whole, StartOutside, 5, 42),
-    (OneState, 79, 1, Whole, BadTarget, 6, 79),
-    (FourStates, 105, 1, Whole, BadTarget, 6, 105),
-    (FourStates, 105, 0, Whole, BadTarget, 6, 105),
-    (FourStates, 131, 4, Whole, BadTarget, 6, 131),
-    (Largest, LAST_TARGET, 2, Whole, BadTarget, 6, LAST_TARGET),
-    (OneState, 89, 0, Whole, ZeroWeight, 7, 89),
-    (Largest, LAST_WEIGHT, 0, Whole, ZeroWeight, 7, LAST_WEIGHT),
-    (OneState, 68, 0, Whole, WrongSum, 8, 68),
-    (OneState, 89, 2, Whole, WrongSum, 8, 68),
-    (Largest, LAST_WEIGHT, 65_531, Whole, WrongSum, 8, LAST_COUNT),
-    (Largest, LAST_WEIGHT, 65_533, Whole, WrongSum, 8, LAST_COUNT),
-    (WidestRows, FOURTH, 1025, Whole, TooManyEdges, 9, FOURTH),
-    (Largest, LAST_COUNT, 5, Whole, TooManyEdges, 9, LAST_COUNT),
-    (OneState, 1, 0, WithLastBitSet, Leftover, 10, 105),
-    (OneState, 1, 0, WithZeroByte, Leftover, 10, 105),
-    (Largest, 1, 0, WithLastBitSet, Leftover, 10, LAST_BIT),
-    (Largest, 1, 0, WithZeroByte, Leftover, 10, LAST_BIT),
+const ONE_STATE: [Case; 9] = [
+    (None, WithoutLastByte, EndsInField, 3, 89),
+    (Some(Change(26, 0)), Whole, ZeroDenominator, 4, 26),
+    (Some(Change(42, 1)), Whole, StartOutside, 5, 42),
+    (Some(Change(79, 1)), Whole, BadTarget, 6, 79),
+    (Some(Change(89, 0)), Whole, ZeroWeight, 7, 89),
+    (Some(Change(68, 0)), Whole, WrongSum, 8, 68),
+    (Some(Change(89, 2)), Whole, WrongSum, 8, 68),
+    (None, WithLastBitSet, Leftover, 10, 105),
+    (None, WithZeroByte, Leftover, 10, 105),
 ];
 
-fn shaped(heap: Global, shape: Shape, change: Change) -> Result<Vec<u8>, AllocError> {
-    match shape {
-        OneState => one_state(heap, change),
-        FourStates => four_states(heap, change),
-        Largest => largest(heap, change),
-        WidestRows => widest_rows(heap, change),
-    }
-}
+const FOUR_STATES: [Case; 3] = [
+    (Some(Change(105, 1)), Whole, BadTarget, 6, 105),
+    (Some(Change(105, 0)), Whole, BadTarget, 6, 105),
+    (Some(Change(131, 4)), Whole, BadTarget, 6, 131),
+];
+
+const LARGEST: [Case; 10] = [
+    (None, WithoutLastByte, EndsInField, 3, LAST_WEIGHT),
+    (Some(Change(26, 0)), Whole, ZeroDenominator, 4, 26),
+    (Some(Change(16, 1022)), Whole, StartOutside, 5, 42),
+    (
+        Some(Change(LAST_TARGET, 2)),
+        Whole,
+        BadTarget,
+        6,
+        LAST_TARGET,
+    ),
+    (
+        Some(Change(LAST_WEIGHT, 0)),
+        Whole,
+        ZeroWeight,
+        7,
+        LAST_WEIGHT,
+    ),
+    (
+        Some(Change(LAST_WEIGHT, 65_531)),
+        Whole,
+        WrongSum,
+        8,
+        LAST_COUNT,
+    ),
+    (
+        Some(Change(LAST_WEIGHT, 65_533)),
+        Whole,
+        WrongSum,
+        8,
+        LAST_COUNT,
+    ),
+    (
+        Some(Change(LAST_COUNT, 5)),
+        Whole,
+        TooManyEdges,
+        9,
+        LAST_COUNT,
+    ),
+    (None, WithLastBitSet, Leftover, 10, LAST_BIT),
+    (None, WithZeroByte, Leftover, 10, LAST_BIT),
+];
+
+const WIDEST_ROWS: [Case; 2] = [
+    (None, Whole, EndsInField, 3, FOURTH_END),
+    (Some(Change(FOURTH, 1025)), Whole, TooManyEdges, 9, FOURTH),
+];
 
 fn ended(mut bytes: Vec<u8>, end: End) -> Result<Vec<u8>, AllocError> {
     match end {
@@ -99,23 +119,28 @@ fn refused(rt: &impl Abort, bytes: &[u8], fault: FileFault, number: u32, place: 
     assert_eq!(rt; fault.number(), number);
 }
 
+fn all_refused<F: Fn(Global, Option<Change>) -> Result<Vec<u8>, AllocError>>(
+    rt: &impl Abort,
+    heap: Global,
+    file: F,
+    cases: &[Case],
+) -> Result<(), AllocError>
+    requires { F.IsAlwaysCallable file }
+{
+    for (change, end, fault, number, place) in cases {
+        let bytes = ended(file(heap, *change)?, *end)?;
+        refused(rt, bytes.as_slice(), *fault, *number, *place);
+    }
+    Ok(())
+}
+
 #[test]
 fn every_fault(rt: HostRuntime) -> Result<(), Fail> {
     let heap = rt.alloc();
-    for (shape, changed, value, end, fault, number, place) in CASES {
-        let bytes = ended(
-            shaped(
-                heap,
-                shape,
-                Change {
-                    place: changed,
-                    value,
-                },
-            )?,
-            end,
-        )?;
-        refused(&rt, bytes.as_slice(), fault, number, place);
-    }
+    all_refused(&rt, heap, one_state, &ONE_STATE)?;
+    all_refused(&rt, heap, four_states, &FOUR_STATES)?;
+    all_refused(&rt, heap, largest, &LARGEST)?;
+    all_refused(&rt, heap, widest_rows, &WIDEST_ROWS)?;
     Ok(())
 }
 
@@ -161,13 +186,7 @@ fn last_byte(rt: HostRuntime) {
 
 #[test]
 fn largest_is_lawful(rt: HostRuntime) -> Result<(), Fail> {
-    let bytes = largest(
-        rt.alloc(),
-        Change {
-            place: LAST_TARGET,
-            value: 1023,
-        },
-    )?;
+    let bytes = largest(rt.alloc(), Some(Change(LAST_TARGET, 1023)))?;
     assert_eq!(rt; bytes.len(), 16_775);
     assert_eq!(rt; check_file(bytes.as_slice()), Ok(()));
     Ok(())

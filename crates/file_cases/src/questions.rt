@@ -1,5 +1,5 @@
 //! What the chains taken up from files answer.
-use crate::draft::{UNCHANGED, four_states, largest};
+use crate::draft::{four_states, largest};
 use chain::{BuiltIn, Chain};
 use packed_chain::PackedChain;
 use std::process::Abort;
@@ -14,7 +14,7 @@ fn numbers(chain: &impl Chain) -> (usize, usize, usize, u32) {
 
 #[test]
 fn four_states_answer(rt: HostRuntime) -> Result<(), Fail> {
-    let bytes = four_states(rt.alloc(), UNCHANGED)?;
+    let bytes = four_states(rt.alloc(), None)?;
     let chain = PackedChain::new(bytes.as_slice());
     assert_eq!(rt; numbers(&chain), (4, 9, 0, 10));
     let letters = [chain.propositions(0), chain.propositions(2)];
@@ -28,7 +28,7 @@ fn four_states_answer(rt: HostRuntime) -> Result<(), Fail> {
 
 #[test]
 fn largest_answers(rt: HostRuntime) -> Result<(), Fail> {
-    let bytes = largest(rt.alloc(), UNCHANGED)?;
+    let bytes = largest(rt.alloc(), None)?;
     let chain = PackedChain::new(bytes.as_slice());
     assert_eq!(rt; numbers(&chain), (1024, 4096, 1023, 65_535));
     let letters = [chain.propositions(1023), chain.propositions(1024)];
