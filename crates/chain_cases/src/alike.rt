@@ -3,7 +3,7 @@ use crate::makes::{Made, deep, four_states, largest, wide};
 use chain::Chain;
 use packed_chain::PackedChain;
 use packed_writer::{WriteFault, write};
-use refusal::Refusal;
+use refusal::{Fault, Refusal};
 use std::alloc::Global;
 use std::process::Abort;
 use std::test::Fail;
@@ -17,7 +17,7 @@ fn same_state(rt: &impl Abort, one: &impl Chain, other: &impl Chain, state: usiz
     }
 }
 
-fn same(rt: &impl Abort, one: &impl Chain, other: &impl Chain) -> Result<(), Fail> {
+fn same(rt: &impl Abort, one: &impl Chain, other: &impl Chain) {
     assert_eq!(rt; one.states(), other.states());
     assert_eq!(rt; one.edges(), other.edges());
     assert_eq!(rt;
@@ -27,21 +27,19 @@ fn same(rt: &impl Abort, one: &impl Chain, other: &impl Chain) -> Result<(), Fai
     for state in 0..1026 {
         same_state(rt, one, other, state);
     }
-    Ok(())
 }
 
 fn written_alike(rt: &impl Abort, heap: Global, made: Made) -> Result<(), Fail> {
     let chain = TableChain::new(made.lent());
     let mut buffer = vec![in heap; 0xA5u8; 16_780]?;
-    match write(&chain, buffer.as_mut_slice()) {
-        Ok(length) => {
-            assert_eq!(rt; buffer.last().copied(), Some(0xA5));
-            buffer.truncate(length);
-            assert_eq!(rt; packed_file::check(buffer.as_slice()).is_ok(), true);
-            same(rt, &chain, &PackedChain::new(buffer.as_slice()))
-        }
-        Err(_) => Err(Fail::new("the buffer is too short")),
-    }
+    let Ok(length) = write(&chain, buffer.as_mut_slice()) else {
+        return Err(Fail::new("the buffer is too short"));
+    };
+    assert_eq!(rt; buffer.last().copied(), Some(0xA5));
+    buffer.truncate(length);
+    assert_eq!(rt; packed_file::check(buffer.as_slice()).is_ok(), true);
+    same(rt, &chain, &PackedChain::new(buffer.as_slice()));
+    Ok(())
 }
 
 #[test]

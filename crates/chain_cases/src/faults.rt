@@ -1,21 +1,14 @@
 //! Every fault of tables, at the first and the last state where it can arise.
 use crate::faults::Damage::*;
-use crate::faults::Shape::*;
 use crate::makes::{Made, four_states, largest};
 use chain::Chain;
-use refusal::Refusal;
+use refusal::{Fault, Refusal};
 use std::alloc::{AllocError, Global};
 use std::process::Abort;
 use std::test::Fail;
 use table_chain::TableChain;
 use tables::TableFault::*;
 use tables::{TableEdge, TableFault, TableRow, Tables, check as check_tables};
-
-#[derive(Clone, Copy)]
-enum Shape {
-    FourStates,
-    Largest,
-}
 
 /// What is changed: the start, the denominator, a row's count, an edge's target or weight, or the number of edges.
 #[derive(Clone, Copy)]
@@ -29,80 +22,67 @@ enum Damage {
     OneEdgeMore,
 }
 
-/// A shape, what is changed in it, and the fault, its number and its place.
-type Case = (Shape, Damage, TableFault, u32, usize);
+/// What is changed, and the fault, its number and its place.
+type Case = (Damage, TableFault, u32, usize);
 
-const CASES: [Case; 23] = [
-    (FourStates, OneEdgeLess, EdgesRunOut, 3, 3),
-    (Largest, OneEdgeLess, EdgesRunOut, 3, 1023),
-    (FourStates, Denominator(0), BadDenominator, 4, 0),
-    (FourStates, Denominator(65_536), BadDenominator, 4, 0),
-    (FourStates, Denominator(u32::MAX), BadDenominator, 4, 0),
-    (FourStates, Start(4), StartOutside, 5, 0),
-    (Largest, Start(usize::MAX), StartOutside, 5, 0),
-    (FourStates, Target(0, 4), BadTarget, 6, 0),
-    (FourStates, Target(1, 1), BadTarget, 6, 0),
-    (Largest, Target(4095, 2), BadTarget, 6, 1023),
-    (Largest, Target(4095, usize::MAX), BadTarget, 6, 1023),
-    (FourStates, Weight(0, 0), ZeroWeight, 7, 0),
-    (Largest, Weight(4095, 0), ZeroWeight, 7, 1023),
-    (FourStates, Weight(0, 7), WrongSum, 8, 0),
-    (FourStates, Weight(0, u32::MAX), WrongSum, 8, 0),
-    (FourStates, Count(0, 0), WrongSum, 8, 0),
-    (Largest, Weight(4095, 65_533), WrongSum, 8, 1023),
-    (FourStates, Count(0, 4097), TooManyEdges, 9, 0),
-    (FourStates, Count(3, usize::MAX), TooManyEdges, 9, 3),
-    (Largest, Count(1023, 5), TooManyEdges, 9, 1023),
-    (FourStates, OneEdgeMore, Leftover, 10, 4),
-    (FourStates, Count(3, 0), WrongSum, 8, 3),
-    (Largest, OneEdgeMore, Leftover, 10, 1024),
+const FOUR_STATES: [Case; 15] = [
+    (OneEdgeLess, EdgesRunOut, 3, 3),
+    (Denominator(0), BadDenominator, 4, 0),
+    (Denominator(65_536), BadDenominator, 4, 0),
+    (Denominator(u32::MAX), BadDenominator, 4, 0),
+    (Start(4), StartOutside, 5, 0),
+    (Target(0, 4), BadTarget, 6, 0),
+    (Target(1, 1), BadTarget, 6, 0),
+    (Weight(0, 0), ZeroWeight, 7, 0),
+    (Weight(0, 7), WrongSum, 8, 0),
+    (Weight(0, u32::MAX), WrongSum, 8, 0),
+    (Count(0, 0), WrongSum, 8, 0),
+    (Count(3, 0), WrongSum, 8, 3),
+    (Count(0, 4097), TooManyEdges, 9, 0),
+    (Count(3, usize::MAX), TooManyEdges, 9, 3),
+    (OneEdgeMore, Leftover, 10, 4),
 ];
 
-fn set_edge(made: &mut Made, at: usize, edge: TableEdge) {
-    if let Some(place) = made.edges.get_mut(at) {
-        *place = edge;
-    }
-}
+const LARGEST: [Case; 8] = [
+    (OneEdgeLess, EdgesRunOut, 3, 1023),
+    (Start(usize::MAX), StartOutside, 5, 0),
+    (Target(4095, 2), BadTarget, 6, 1023),
+    (Target(4095, usize::MAX), BadTarget, 6, 1023),
+    (Weight(4095, 0), ZeroWeight, 7, 1023),
+    (Weight(4095, 65_533), WrongSum, 8, 1023),
+    (Count(1023, 5), TooManyEdges, 9, 1023),
+    (OneEdgeMore, Leftover, 10, 1024),
+];
 
-fn edge_at(made: &Made, at: usize) -> TableEdge {
-    made.edges.get(at).copied().unwrap_or(TableEdge {
-        target: 0,
-        weight: 0,
-    })
-}
-
-fn apply(made: &mut Made, damage: Damage) -> Result<(), AllocError> {
-    match damage {
-        Start(start) => made.start = start,
-        Denominator(denominator) => made.denominator = denominator,
-        Count(state, count) => {
-            if let Some(row) = made.rows.get_mut(state) {
-                row.count = count;
+impl Damage {
+    fn apply(self, made: &mut Made) -> Result<(), AllocError> {
+        match self {
+            Start(start) => made.start = start,
+            Denominator(denominator) => made.denominator = denominator,
+            Count(state, count) => {
+                if let Some(row) = made.rows.get_mut(state) {
+                    row.count = count;
+                }
             }
+            Target(at, target) => {
+                if let Some(edge) = made.edges.get_mut(at) {
+                    edge.target = target;
+                }
+            }
+            Weight(at, weight) => {
+                if let Some(edge) = made.edges.get_mut(at) {
+                    edge.weight = weight;
+                }
+            }
+            OneEdgeLess => {
+                let _ = made.edges.pop();
+            }
+            OneEdgeMore => made.edges.push(TableEdge {
+                target: 0,
+                weight: 1,
+            })?,
         }
-        Target(at, target) => {
-            let weight = edge_at(made, at).weight;
-            set_edge(made, at, TableEdge { target, weight });
-        }
-        Weight(at, weight) => {
-            let target = edge_at(made, at).target;
-            set_edge(made, at, TableEdge { target, weight });
-        }
-        OneEdgeLess => {
-            let _ = made.edges.pop();
-        }
-        OneEdgeMore => made.edges.push(TableEdge {
-            target: 0,
-            weight: 1,
-        })?,
-    }
-    Ok(())
-}
-
-fn shaped(heap: Global, shape: Shape) -> Result<Made, AllocError> {
-    match shape {
-        FourStates => four_states(heap),
-        Largest => largest(heap),
+        Ok(())
     }
 }
 
@@ -113,13 +93,26 @@ fn refused(rt: &impl Abort, tables: &Tables, fault: TableFault, number: u32, pla
     assert_eq!(rt; (built_in.states(), built_in.edge(0, 0)), (1, Some((0, 1))));
 }
 
+fn all_refused<F: Fn(Global) -> Result<Made, AllocError>>(
+    rt: &impl Abort,
+    heap: Global,
+    make: F,
+    cases: &[Case],
+) -> Result<(), AllocError>
+    requires { F.IsAlwaysCallable make }
+{
+    for (damage, fault, number, place) in cases {
+        let mut made = make(heap)?;
+        damage.apply(&mut made)?;
+        refused(rt, &made.lent(), *fault, *number, *place);
+    }
+    Ok(())
+}
+
 #[test]
 fn every_fault(rt: HostRuntime) -> Result<(), Fail> {
-    for (shape, change, fault, number, place) in CASES {
-        let mut made = shaped(rt.alloc(), shape)?;
-        apply(&mut made, change)?;
-        refused(&rt, &made.lent(), fault, number, place);
-    }
+    all_refused(&rt, rt.alloc(), four_states, &FOUR_STATES)?;
+    all_refused(&rt, rt.alloc(), largest, &LARGEST)?;
     Ok(())
 }
 

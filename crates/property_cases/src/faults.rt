@@ -1,8 +1,8 @@
 //! Every fault of a text, at the first and the last place where it can arise.
-use crate::texts::{Text, made};
+use crate::texts::Text;
 use property::PropertyFault::*;
 use property::{Property, PropertyFault};
-use refusal::Refusal;
+use refusal::{Fault, Refusal};
 use std::alloc::{AllocError, Global};
 use std::process::Abort;
 
@@ -136,7 +136,7 @@ fn refused(rt: &impl Abort, text: &[u8], fault: PropertyFault, number: u32, plac
 
 fn all_refused(rt: &impl Abort, heap: Global, cases: &[Case]) -> Result<(), AllocError> {
     for (text, fault, number, place) in cases {
-        let text = made(heap, *text)?;
+        let text = text.made(heap)?;
         refused(rt, text.as_bytes(), *fault, *number, *place);
     }
     Ok(())

@@ -1,5 +1,5 @@
 //! Texts that are read, and how they are written back.
-use crate::texts::{Text, made};
+use crate::texts::Text;
 use property::Property;
 use std::test::Fail;
 
@@ -60,7 +60,7 @@ const READINGS: [Reading; 18] = [
 #[test]
 fn are_read(rt: HostRuntime) -> Result<(), Fail> {
     for (text, upper, lower, hops, parts) in READINGS {
-        let text = made(rt.alloc(), text)?;
+        let text = text.made(rt.alloc())?;
         let property = Property::read(text.as_bytes()).unwrap_or(Property::fresh());
         let ceiling = property.ceiling();
         let read = (

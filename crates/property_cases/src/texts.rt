@@ -10,13 +10,10 @@ pub(crate) struct Text(
     pub(crate) &'static str,
 );
 
-pub(crate) fn made(heap: Global, text: Text) -> Result<String, AllocError> {
-    let Text(front, piece, times, back) = text;
-    let mut made = String::new(heap);
-    made.push_str(front)?;
-    for _ in 0..times {
-        made.push_str(piece)?;
+impl Text {
+    pub(crate) fn made(self, heap: Global) -> Result<String, AllocError> {
+        let Text(front, piece, times, back) = self;
+        let middle = piece.repeat(heap, times)?;
+        format!(in heap; "{front}{middle}{back}")
     }
-    made.push_str(back)?;
-    Ok(made)
 }
