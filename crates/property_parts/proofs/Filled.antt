@@ -1,5 +1,5 @@
 -- Each part of a table names only parts before it.
-use Rattle.std.proofs.Common.{◌≡◌, ℕ, ◌+◌, ◌<◌, true, ◌&&◌, ltb, ◌≢◌, List, length, get_or, take, set, sym, ap, ◌∙◌, arith, get_or-set_other, get_or-take, get_or-set_same, below_more}
+use Rattle.std.proofs.Common.{◌≡◌, ℕ, ◌+◌, ◌<◌, true, ◌&&◌, ltb, ◌≢◌, List, length, [], ◌∷◌, ◌++◌, get_or, take, set, add-one, take-suc-set, sym, ap, ◌∙◌, arith, get_or-set_other, get_or-take, get_or-set_same, below_more}
 use Rattle.std.proofs.lemmas.Bool.{ltb-true, and_parts}
 use Rattle.property_parts.specs.Parts.{names_earlier, Falls}
 use Rattle.property_parts.specs.declared.parts.Part.{Part}
@@ -11,6 +11,9 @@ fills ps n p room old new =
     below_more _ _
     (λ k h. let ne : k ≢ n = omega arith in rw get_or-set_other (old k h))
     (rw (get_or-set_same ps n p (Letter 0) room) new)
+
+pub fills_held : (ps : List Part) (n : ℕ) (p : Part) → n < length ps → take (n + 1) (set ps n p) ≡ take n ps ++ (p ∷ [])
+fills_held ps n p room = rw add-one (take-suc-set ps n p room)
 
 -- the parts that a table holds are the first of its slots
 pub held_at : (ps : List Part) (m n : ℕ) → n < m → get_or (take m ps) n (Letter 0) ≡ get_or ps n (Letter 0)

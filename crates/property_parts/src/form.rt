@@ -10,14 +10,15 @@ use crate::parts::Part;
 use crate::table::PartTable;
 use std::fmt;
 
-/// Whether a part that stands as that kind is in parentheses: `a&b` is no factor, and `a|b` is no term.
-fn is_enclosed(part: Part, kind: Kind) -> bool
-    ensures { result ≡ part_needs part kind }
-{
-    match part {
-        Part::And(_, _) => matches!(kind, Kind::Factor),
-        Part::Or(_, _) => !matches!(kind, Kind::State),
-        _ => false,
+impl Part {
+    /// Whether the part, where it stands as that kind, is in parentheses: `a&b` is no factor, and `a|b` is no term.
+    fn is_enclosed(self, kind: Kind) -> bool
+        ensures { result ≡ part_needs self kind }
+    {
+        matches!(
+            (self, kind),
+            (Part::And(_, _), Kind::Factor) | (Part::Or(_, _), Kind::Term | Kind::Factor)
+        )
     }
 }
 
@@ -33,7 +34,7 @@ impl PartTable {
         requires { number < self.now.count }
         ensures { WritesOnOk W.write_str_gives f.old result (form (held self.now) number kind) f.new }
     {
-        if is_enclosed(self.part(number), kind) {
+        if self.part(number).is_enclosed(kind) {
             f.write_str("(")?;
             self.write_state(number, f)?;
             f.write_str(")")
