@@ -1,13 +1,14 @@
 -- What is written of a formula's own part is what is written of the formula.
-use Rattle.std.proofs.Common.{◌≡◌, ℕ, ◌<◌, Bool, List, ◌∷◌, get_or, sym, refl, ap, ◌∙◌, ap₂}
+use Rattle.std.proofs.Common.{◌≡◌, ℕ, ◌<◌, true, false, List, [], ◌∷◌, ◌++◌, get_or, sym, refl, ap, ◌∙◌, ap₂}
 use Rattle.std.proofs.lemmas.Bool.{ltb-true}
 use Rattle.property_parts.specs.Form.{enclosed, part_needs, and_form, or_form, plain, form_rule, form}
-use Rattle.property_parts.specs.Parts.{Falls}
+use Rattle.property_parts.specs.Table.{held}
+use Rattle.property_parts.specs.declared.table.PartTable.{PartTable}
 use Rattle.property_parts.specs.declared.kinds.Kind.{Kind}
 use Rattle.property_parts.specs.declared.kinds.Kind.TheVariants.{State, Factor}
 use Rattle.property_parts.specs.declared.parts.Part.{Part}
 use Rattle.property_parts.specs.declared.parts.Part.TheVariants.{Letter, Not, True, False, And, Or}
-use Rattle.property_parts.proofs.Filled.{both_earlier}
+use Rattle.property_parts.proofs.Filled.{both_earlier, held_falls}
 use Rattle.property_parts.proofs.Made.{Local, made_at}
 use Rattle.property_parts.proofs.Values.{Follows}
 
@@ -38,9 +39,14 @@ rule_enclosed f False kind = refl
 rule_enclosed f (And a b) kind = refl
 rule_enclosed f (Or a b) kind = refl
 
-module _ (ps : List Part) (m : ℕ) (falls : Falls ps m) (n : ℕ) (h : n < m) (p : Part) (at : p ≡ get_or ps n (Letter 0)) where
-  pub form_at : (kind : Kind) → form_rule (form ps) p kind ≡ form ps n kind
-  form_at kind = ap (λ f. f kind) (sym (made_at _ form_rule form_local ps m falls n p h (sym at)))
+-- of a part that a table holds
+module _ (t : PartTable) (n : ℕ) (h : n < t.count) (p : Part) (at : p ≡ get_or (held t) n (Letter 0)) (kind : Kind) where
+  form_at : (κ : Kind) → form_rule (form (held t)) p κ ≡ form (held t) n κ
+  form_at κ = ap (λ f. f κ) (sym (made_at _ form_rule form_local (held t) t.count (held_falls _ _ t.falls) n p h (sym at)))
 
-  pub form_enclosed : (kind : Kind) (needed : Bool) → needed ≡ part_needs p kind → enclosed needed (form ps n State) ≡ form ps n kind
-  form_enclosed kind needed e = ap₂ enclosed e (sym (form_at State)) ∙ (rule_enclosed (form ps) p kind ∙ form_at kind)
+  pub form_enclosed : part_needs p kind ≡ true → 40 ∷ (form (held t) n State ++ (41 ∷ [])) ≡ form (held t) n kind
+  form_enclosed e = ap₂ enclosed (sym e) (sym (form_at State)) ∙ (rule_enclosed (form (held t)) p kind ∙ form_at kind)
+
+  pub form_bare : (q : Part) → p ≡ q → false ≡ part_needs p kind → form_rule (form (held t)) q State ≡ form (held t) n kind
+  form_bare q e bare = ap (λ r. form_rule (form (held t)) r State) (sym e)
+      ∙ (ap (λ b. enclosed b (form_rule (form (held t)) p State)) bare ∙ (rule_enclosed (form (held t)) p kind ∙ form_at kind))
