@@ -1,6 +1,6 @@
-use Rattle.std.proofs.Common.{◌≡◌, ◌+◌, ◌-◌, ◌*◌, ◌^◌, ◌<◌, Ok, sym, ap, ◌∙◌, arith, rules}
+use Rattle.std.proofs.Common.{◌≡◌, ◌+◌, ◌-◌, ◌*◌, ◌^◌, ◌<◌, Ok, sym, ap, ◌∙◌, arith}
 use Rattle.property_text.proofs.Numerals.{more_bound, turn_length, turn_worth, number_end}
-use Rattle.property_text.proofs.numbers.read_number.Goals as goal
+use Rattle.property_text.proofs.bytes.number_at.Goals as goal
 
 pub loop-digit-preserved : goal.loop-digit-preserved
 loop-digit-preserved c =
@@ -17,12 +17,12 @@ loop-digit-preserved c =
       rw p at b,
       omega arith,
       omega arith,
-      omega arith,
-      search rules,
+      grind arith,
+      grind arith,
     )
 
-pub returns : goal.returns
-returns c =
+pub returns-clause-value : goal.returns-clause-value
+returns-clause-value c =
     let s = c.args.text.now in
     let i = c.args.at in
     let k = c.loop-digit.end in

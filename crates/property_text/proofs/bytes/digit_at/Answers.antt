@@ -1,7 +1,7 @@
 use Rattle.std.proofs.Common.{◌+◌, ◌-◌, ◌<◌, ◌∷◌, length, drop, sym, ap, ◌∙◌, inl, inr, arith}
 use Rattle.property_text.specs.Tokens.{digits}
 use Rattle.property_text.proofs.Numerals.{digit_some, digit_none}
-use Rattle.property_text.proofs.numbers.digit_at.Goals as goal
+use Rattle.property_text.proofs.bytes.digit_at.Goals as goal
 
 pub returns-then-byte-lt48 : goal.returns-then-byte-lt48
 returns-then-byte-lt48 c =

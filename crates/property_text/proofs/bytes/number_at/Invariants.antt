@@ -1,6 +1,6 @@
 use Rattle.std.proofs.Common.{◌≡◌, ◌+◌, ◌-◌, ◌^◌, ◌<◌, ◌≤◌, length, drop}
 use Rattle.property_text.specs.Tokens.{digits, worth}
-use Rattle.property_text.proofs.numbers.read_number.Given as goal
+use Rattle.property_text.proofs.bytes.number_at.Given as goal
 
 abbrev pub invariant-loop-digit : goal.invariant-loop-digit
 invariant-loop-digit l =
