@@ -5,28 +5,25 @@ use Rattle.refusal.specs.declared.Refusal.{Refusal}
 use Rattle.property_parts.specs.Formula.{Formula, root, size, parts_of}
 use Rattle.property_parts.specs.Parts.{most_parts}
 use Rattle.property_parts.specs.declared.parts.Part.{Part}
-use Rattle.property_parts.specs.declared.parts.Part.TheVariants.{And, Or}
 use Rattle.property_parts.specs.declared.table.PartTable.{PartTable}
 use Rattle.property_text.specs.Faults.{refused, ◌>>=◌}
 use Rattle.property_text.specs.Tokens.{past}
 use Rattle.property_text.specs.declared.fault.PropertyFault.{PropertyFault}
 use Rattle.property_text.specs.declared.fault.PropertyFault.TheVariants.{TooManyParts}
-use Rattle.formula_reader.specs.Reading.{Reader, Operator, conjunction, disjunction, sign, join, room, more, joined}
+use Rattle.formula_reader.specs.Operators.{sign, join, part}
+use Rattle.formula_reader.specs.Reading.{Reader, room, more, joined}
+use Rattle.formula_reader.specs.declared.operator.Operator.{Operator}
+use Rattle.formula_reader.specs.declared.operator.Operator.TheVariants.{And, Or}
 use Rattle.property_parts.specs.Table.{held, Filled}
 use Rattle.formula_reader.specs.Answers.{Made}
 
--- the part of an operator
-abbrev pub part : Operator → ℕ → ℕ → Part
-part conjunction = And
-part disjunction = Or
-
 pub join_root : (o : Operator) (a b : Formula) → root (join o a b) ≡ size a + size b
-join_root conjunction a b = refl
-join_root disjunction a b = refl
+join_root And a b = refl
+join_root Or a b = refl
 
 join_parts : (o : Operator) (n : ℕ) (a b : Formula) → parts_of n (join o a b) ≡ (parts_of n a ++ parts_of (n + size a) b) ++ (part o (n + root a) ((n + size a) + root b) ∷ [])
-join_parts conjunction n a b = refl
-join_parts disjunction n a b = refl
+join_parts And n a b = refl
+join_parts Or n a b = refl
 
 module _ (s : List ℕ) (full : ℕ) (o : Operator) (item : Reader) where
   -- a turn, where there is one more item

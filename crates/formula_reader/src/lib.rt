@@ -2,6 +2,7 @@
 #![tactic(auto)]
 
 mod formulas;
-mod tokens;
+mod operator;
+mod reader;
 
-pub use crate::formulas::read_state;
+pub use crate::reader::FormulaReader;
