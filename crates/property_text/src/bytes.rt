@@ -1,18 +1,8 @@
-//! The bytes of a text at a place.
-ghost use Rattle.std.specs.Prelude.{◌≡◌, ◌+◌, ◌<◌, ◌≤◌, [], ◌∷◌, length, drop, slice_index, IfOk, MatchOption, ◌==◌};
+//! What a text has at a place: spaces, and digits.
+ghost use Rattle.std.specs.Prelude.{◌≡◌, ◌≤◌, ◌==◌, length};
+ghost use Rattle.std.specs.Char.{is_ascii_digit};
 ghost use Rattle.std.specs.List.{prefix_len};
-ghost use Rattle.property_text.specs.Tokens.{digits, past, number};
-
-use crate::fault::PropertyFault;
-use refusal::{Refusal, demand};
-
-/// The byte at that place; 0 past the end.
-pub(crate) fn byte_at(text: &[u8], place: usize) -> u8
-    ensures value { result ≡ slice_index text.now place }
-    ensures inside { 0 < result → place < length text.now }
-{
-    if place < text.len() { text[place] } else { 0 }
-}
+ghost use Rattle.property_text.specs.Tokens.{digits, past, worth};
 
 /// How many spaces the bytes begin with.
 fn space_count(bytes: &[u8]) -> usize
@@ -33,37 +23,35 @@ pub(crate) fn past_spaces(text: &[u8], from: usize) -> usize
     from + space_count(&text[from..])
 }
 
-/// The digit at that place.
-fn digit_at(text: &[u8], place: usize) -> Option<u8>
-    ensures { MatchOption result
-        (digits (drop place text.now) ≡ [])
-        (λ d. (place < length text.now) × (d < 10) × (digits (drop place text.now) ≡ d ∷ digits (drop (place + 1) text.now))) }
+/// How many digits the bytes begin with.
+fn digit_count(bytes: &[u8]) -> usize
+    ensures value { result ≡ prefix_len is_ascii_digit bytes.now }
+    ensures within { result ≤ length bytes.now }
 {
-    let byte = byte_at(text, place);
-    if byte < b'0' || byte > b'9' {
-        return None;
-    }
-    Some(byte - b'0')
+    bytes
+        .iter()
+        .take_while(|byte| byte.is_ascii_digit())
+        .count()
 }
 
-/// The number at that place, of at most five digits, with no needless 0 in front; and where the next token should begin.
-pub(crate) fn number_at(text: &[u8], at: usize) -> Result<(u32, usize), Refusal<PropertyFault>>
-    ensures value { result ≡ number text.now at }
-    ensures within { IfOk result (λ v. v.1 ≤ length text.now) }
+/// The digits that the bytes begin with.
+pub(crate) fn leading_digits(bytes: &[u8]) -> &[u8]
+    ensures digits { digits result.now ≡ digits bytes.now }
+    ensures all { prefix_len is_ascii_digit result.now ≡ length result.now }
+    ensures within { length result.now ≤ length bytes.now }
 {
-    let Some(first) = digit_at(text, at) else {
-        return Err(Refusal {
-            fault: PropertyFault::TokenMissing,
-            place: at,
-        });
-    };
-    let mut value = first as u32;
-    let mut end = at + 1;
-    while let Some(digit) = digit_at(text, end) {
-        demand(first != 0, PropertyFault::BadNumber, at)?;
-        demand(end - at < 5, PropertyFault::BadNumber, at)?;
-        value = value * 10 + digit as u32;
-        end += 1;
+    &bytes[..digit_count(bytes)]
+}
+
+/// The number that so many digits write.
+pub(crate) fn number_written(bytes: &[u8]) -> u32
+    requires all { prefix_len is_ascii_digit bytes.now ≡ length bytes.now }
+    requires few { length bytes.now ≤ 5 }
+    ensures { result ≡ worth 0 (digits bytes.now) }
+{
+    let mut value = 0;
+    for byte in bytes {
+        value = value * 10 + (byte - b'0') as u32;
     }
-    Ok((value, past_spaces(text, end)))
+    value
 }

@@ -1,9 +1,10 @@
 //! The tokens of a text, one by one from its front.
-ghost use Rattle.std.specs.Prelude.{◌≡◌, ◌+◌, ◌<◌, ◌≤◌, ◌==◌, length, IfOk, slice_index};
-ghost use Rattle.property_text.specs.Faults.{ended, up_to};
+ghost use Rattle.std.specs.Prelude.{◌≡◌, ◌+◌, ◌<◌, ◌≤◌, ◌==◌, length, drop, cond, nat_eq, Ok, IfOk, slice_index};
+ghost use Rattle.std.specs.List.{starts_with};
+ghost use Rattle.property_text.specs.Faults.{ended, refused, up_to};
 ghost use Rattle.property_text.specs.Tokens.{past, byte as byte-token, at_most, number};
 
-use crate::bytes::{byte_at, number_at, past_spaces};
+use crate::bytes::{leading_digits, number_written, past_spaces};
 use crate::fault::PropertyFault;
 use refusal::{Refusal, demand};
 
@@ -39,7 +40,11 @@ impl<'a> Tokens<'a> {
         ensures value { result ≡ slice_index self.now.text.now self.now.at }
         ensures inside { 0 < result → self.now.at < length self.now.text.now }
     {
-        byte_at(self.text, self.at)
+        if self.is_at_end() {
+            0
+        } else {
+            self.text[self.at]
+        }
     }
 
     pub fn is_at_end(&self) -> bool
@@ -68,6 +73,30 @@ impl<'a> Tokens<'a> {
         self.at = past_spaces(self.text, self.at + 1);
     }
 
+    /// The text from the next token on.
+    fn rest(&self) -> &'a [u8]
+        ensures { result.now ≡ drop self.now.at self.now.text.now }
+    {
+        &self.text[self.at..]
+    }
+
+    /// Reads a token of these bytes.
+    fn read_token(&mut self, token: &[u8]) -> Result<(), Refusal<PropertyFault>>
+        ensures value { ended self.new.at result ≡ cond (starts_with nat_eq (drop self.old.at self.old.text.now) token.now)
+            (Ok (past self.old.text.now (self.old.at + length token.now)))
+            (refused PropertyFault.TokenMissing self.old.at) }
+        ensures later { IfOk result (λ _. self.old.at + length token.now ≤ self.new.at) }
+        ensures text { self.new.text ≡ self.old.text }
+    {
+        demand(
+            self.rest().starts_with(token),
+            PropertyFault::TokenMissing,
+            self.at,
+        )?;
+        self.at = past_spaces(self.text, self.at + token.len());
+        Ok(())
+    }
+
     /// Reads a token of one byte.
     pub fn read_byte(&mut self, token: u8) -> Result<(), Refusal<PropertyFault>>
         requires { 0 < token }
@@ -75,9 +104,7 @@ impl<'a> Tokens<'a> {
         ensures later { IfOk result (λ _. self.old.at < self.new.at) }
         ensures text { self.new.text ≡ self.old.text }
     {
-        demand(self.byte() == token, PropertyFault::TokenMissing, self.at)?;
-        self.advance();
-        Ok(())
+        self.read_token(&[token])
     }
 
     /// Reads `<=`.
@@ -85,13 +112,7 @@ impl<'a> Tokens<'a> {
         ensures value { ended self.new.at result ≡ at_most self.old.text.now self.old.at }
         ensures text { self.new.text ≡ self.old.text }
     {
-        demand(
-            byte_at(self.text, self.at) == b'<' && byte_at(self.text, self.at + 1) == b'=',
-            PropertyFault::TokenMissing,
-            self.at,
-        )?;
-        self.at = past_spaces(self.text, self.at + 2);
-        Ok(())
+        self.read_token(b"<=")
     }
 
     /// Reads a number of at most five digits, with no needless 0 in front.
@@ -99,8 +120,15 @@ impl<'a> Tokens<'a> {
         ensures value { up_to self.new.at result ≡ number self.old.text.now self.old.at }
         ensures text { self.new.text ≡ self.old.text }
     {
-        let (value, end) = number_at(self.text, self.at)?;
-        self.at = end;
-        Ok(value)
+        let written = leading_digits(self.rest());
+        demand(!written.is_empty(), PropertyFault::TokenMissing, self.at)?;
+        demand(written.len() <= 5, PropertyFault::BadNumber, self.at)?;
+        demand(
+            written.len() == 1 || written[0] != b'0',
+            PropertyFault::BadNumber,
+            self.at,
+        )?;
+        self.at = past_spaces(self.text, self.at + written.len());
+        Ok(number_written(written))
     }
 }
