@@ -65,8 +65,7 @@ module _ (s : List ℕ) (full : ℕ) where
       let e : suc d - 1 ≡ d = omega arith in
       let h = state_reads d n j k a p r (λ e. absurd (omega (arith, e, u.stands))) (λ e. absurd (omega (arith, e, u.stands))) in
       factor_open s full (nested s full (suc d)) n i t.stands
-      ∙ inside_closed s full n i (suc d) (omega arith) a k l
-      (rw (gap_is s (i + 1) j t.gap) (ap (λ x. reading.state s full x n j) e ∙ h)) (byte_is s 41 k l u)
+      ∙ inside_closed s full n i (suc d) (omega arith) refl (sym (gap_is s (i + 1) j t.gap)) refl a k (ap (λ x. reading.state s full x n j) e ∙ h) l (sym (byte_is s 41 k l u))
 
   reads : {k : Kind} {d i j : ℕ} {a : Formula} → Spells s k d i j a → Reads k d i j a
   reads (a_letter {d} l h t) = λ n r. letter_reads (nested s full d) n _ _ l h t (omega arith)

@@ -1,5 +1,5 @@
 -- What a factor gives, by the byte that it begins with.
-use Rattle.std.proofs.Common.{◌≡◌, ℕ, zero, suc, ◌+◌, ◌-◌, ◌<◌, ◌≤◌, true, cond, ltb, List, get_or, Ok, Err, Result, sym, refl, ◌∙◌, append_assoc, arith}
+use Rattle.std.proofs.Common.{◌≡◌, ℕ, zero, suc, ◌+◌, ◌-◌, ◌<◌, ◌≤◌, true, cond, ltb, List, get_or, Ok, Err, Result, sym, refl, ap, ◌∙◌, append_assoc, arith}
 use Rattle.std.proofs.lemmas.Bool.{lt-ltb, le-leb, and_from}
 use Rattle.refusal.specs.declared.Refusal.{Refusal}
 use Rattle.property_parts.specs.Formula.{Formula, letter, no_letter, top, bottom}
@@ -72,17 +72,20 @@ module _ (s : List ℕ) (full n i : ℕ) where
   nested_more zero h = absurd (omega arith)
   nested_more (suc d) h = let e : suc d - 1 ≡ d = omega arith in rw e
 
--- a formula in parentheses, the first of which is at i
-module _ (s : List ℕ) (full n i d : ℕ) (deeper : 0 < d) where
-  pub inside_bad : {r : Refusal PropertyFault} → state s full (d - 1) n (past s (i + 1)) ≡ Err r → nested s full d n i ≡ Err r
-  inside_bad h = nested_more s full n i d deeper ∙ rw h refl
+-- a formula in parentheses, the first of which is at i; behind it the text u is read from j on, and from k on the text v
+module _ (s : List ℕ) (full n i d : ℕ) (deeper : 0 < d) {u : List ℕ} {j : ℕ} (same : u ≡ s) (next : j ≡ past s (i + 1)) where
+  inside : nested s full d n i ≡ (state u full (d - 1) n j >>= (λ a. byte s 41 a.1 >>= (λ k. Ok (a.0, k))))
+  inside = rw (same, next) (nested_more s full n i d deeper)
 
-  pub inside_unclosed : {r : Refusal PropertyFault} (a : Formula) (k : ℕ) → state s full (d - 1) n (past s (i + 1)) ≡ Ok (a, k) → byte s 41 k ≡ Err r → nested s full d n i ≡ Err r
-  inside_unclosed a k h b = nested_more s full n i d deeper ∙ rw (h, b) refl
+  pub inside_bad : {r : Refusal PropertyFault} → state u full (d - 1) n j ≡ Err r → nested s full d n i ≡ Err r
+  inside_bad h = inside ∙ rw h refl
 
-  pub inside_closed : (a : Formula) (k l : ℕ) → state s full (d - 1) n (past s (i + 1)) ≡ Ok (a, k) → byte s 41 k ≡ Ok l → nested s full d n i ≡ Ok (a, l)
-  inside_closed a k l h b = nested_more s full n i d deeper ∙ rw (h, b) refl
+  module _ {v : List ℕ} (still : v ≡ u) (a : Formula) (k : ℕ) (h : state u full (d - 1) n j ≡ Ok (a, k)) where
+    closing : byte v 41 k ≡ byte s 41 k
+    closing = ap (λ x. byte x 41 k) (still ∙ same)
 
--- what is read behind the token at i, in the same text
-pub behind : (f : List ℕ → ℕ → Read (Formula × ℕ)) (s t u : List ℕ) (i j : ℕ) → t ≡ s → u ≡ t → j ≡ past t (i + 1) → f s (past s (i + 1)) ≡ f u j
-behind f s t u i j e g h = rw (h, g, e) refl
+    pub inside_unclosed : {r : Refusal PropertyFault} → Err r ≡ byte v 41 k → nested s full d n i ≡ Err r
+    inside_unclosed b = inside ∙ rw (h, sym (b ∙ closing)) refl
+
+    pub inside_closed : (l : ℕ) → Ok l ≡ byte v 41 k → nested s full d n i ≡ Ok (a, l)
+    inside_closed l b = inside ∙ rw (h, sym (b ∙ closing)) refl
