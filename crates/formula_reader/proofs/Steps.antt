@@ -1,10 +1,8 @@
 -- What a factor gives, by the byte that it begins with.
-use Rattle.std.proofs.Common.{◌≡◌, ℕ, zero, suc, ◌+◌, ◌-◌, ◌<◌, ◌≤◌, true, cond, ltb, List, get_or, Ok, Err, Result, sym, refl, ap, ◌∙◌, append_assoc, arith}
+use Rattle.std.proofs.Common.{◌≡◌, ℕ, zero, suc, ◌+◌, ◌-◌, ◌<◌, ◌≤◌, true, cond, ltb, List, get_or, Ok, Err, Result, sym, refl, ap, ◌∙◌, arith}
 use Rattle.std.proofs.lemmas.Bool.{lt-ltb, le-leb, and_from}
 use Rattle.refusal.specs.declared.Refusal.{Refusal}
-use Rattle.property_parts.specs.Formula.{Formula, letter, no_letter, top, bottom}
-use Rattle.property_parts.specs.Parts.{most_parts}
-use Rattle.property_parts.specs.declared.parts.Part.TheVariants.{Letter, Not}
+use Rattle.property_parts.specs.Formula.{Formula, letter, top, bottom}
 use Rattle.property_parts.specs.declared.table.PartTable.{PartTable}
 use Rattle.property_text.specs.Faults.{Read, ◌>>=◌}
 use Rattle.property_text.specs.Tokens.{past, byte}
@@ -12,7 +10,6 @@ use Rattle.property_text.specs.declared.fault.PropertyFault.{PropertyFault}
 use Rattle.property_text.specs.declared.fault.PropertyFault.TheVariants.{TooDeep}
 use Rattle.property_text.proofs.Read.{err_ok}
 use Rattle.formula_reader.specs.Reading.{Reader, lettered, single, lone_letter, negated, factor_by, nested, state}
-use Rattle.property_parts.specs.Table.{Filled}
 use Rattle.formula_reader.specs.Answers.{Made, Answers}
 use Rattle.formula_reader.specs.declared.reader.FormulaReader.{FormulaReader}
 
@@ -27,19 +24,6 @@ answers_as reading same before after (Err refusal) e m = e ∙ m
 
 pub is_lettered : (c : ℕ) → 97 ≤ c → c ≤ 112 → lettered c ≡ true
 is_lettered c l u = and_from _ _ (le-leb 97 c l) (le-leb c 112 u)
-
-pub negated_made : (s : List ℕ) (p i : ℕ) (start mid after : PartTable) (k v next : ℕ) → lettered (get_or s i 0) ≡ true → next ≡ past s (i + 1)
-    → Filled start (Letter (get_or s i 0 - 97)) mid k → Filled mid (Not k) after v → Made (negated s most_parts start.count p i) start after v next
-negated_made s p i start mid after k v next t en a b =
-    let f₁ : ltb start.count most_parts ≡ true = lt-ltb _ _ (omega (arith, a.small, a.own)) in
-    let f₂ : ltb (start.count + 1) most_parts ≡ true = lt-ltb _ _ (omega (arith, a.own, a.count, b.small, b.own)) in
-    record {
-      formula = no_letter (get_or s i 0 - 97);
-      read = rw (t, f₁, f₂, en);
-      own = omega (arith, a.own, a.count, b.own);
-      count = omega (arith, a.own, a.count, b.own, b.count);
-      parts = b.parts ∙ rw (a.parts, a.own) (simp append_assoc);
-    }
 
 module _ (s : List ℕ) (full : ℕ) (inner : Reader) (n i : ℕ) where
   pub factor_letter : 97 ≤ get_or s i 0 → get_or s i 0 ≤ 112 → factor_by s full inner n i ≡ single s full (letter (get_or s i 0 - 97)) n i

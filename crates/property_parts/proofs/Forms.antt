@@ -1,9 +1,9 @@
 -- What is written of a formula's own part is what is written of the formula.
-use Rattle.std.proofs.Common.{◌≡◌, ℕ, ◌<◌, true, false, List, [], ◌∷◌, ◌++◌, get_or, sym, refl, ap, ◌∙◌, ap₂}
+use Rattle.std.proofs.Common.{◌≡◌, ℕ, true, false, List, [], ◌∷◌, ◌++◌, get_or, sym, refl, ap, ◌∙◌, ap₂}
 use Rattle.std.proofs.lemmas.Bool.{ltb-true}
 use Rattle.property_parts.specs.Form.{enclosed, part_needs, and_form, or_form, plain, form_rule, form}
 use Rattle.property_parts.specs.Table.{held}
-use Rattle.property_parts.specs.declared.table.PartTable.{PartTable}
+use Rattle.property_parts.specs.declared.form.PartForm.{PartForm}
 use Rattle.property_parts.specs.declared.kinds.Kind.{Kind}
 use Rattle.property_parts.specs.declared.kinds.Kind.TheVariants.{State, Factor}
 use Rattle.property_parts.specs.declared.parts.Part.{Part}
@@ -39,14 +39,17 @@ rule_enclosed f False kind = refl
 rule_enclosed f (And a b) kind = refl
 rule_enclosed f (Or a b) kind = refl
 
--- of a part that a table holds
-module _ (t : PartTable) (n : ℕ) (h : n < t.count) (p : Part) (at : p ≡ get_or (held t) n (Letter 0)) (kind : Kind) where
-  form_at : (κ : Kind) → form_rule (form (held t)) p κ ≡ form (held t) n κ
-  form_at κ = ap (λ f. f κ) (sym (made_at _ form_rule form_local (held t) t.count (held_falls _ _ t.falls) n p h (sym at)))
+-- of a part where it stands as a kind
+module _ (v : PartForm) {p : Part} (at : p ≡ get_or (held v.parts.now) v.number (Letter 0)) where
+  abbrev made : ℕ → Kind → List ℕ
+  made = form (held v.parts.now)
 
-  pub form_enclosed : part_needs p kind ≡ true → 40 ∷ (form (held t) n State ++ (41 ∷ [])) ≡ form (held t) n kind
-  form_enclosed e = ap₂ enclosed (sym e) (sym (form_at State)) ∙ (rule_enclosed (form (held t)) p kind ∙ form_at kind)
+  form_at : (kind : Kind) → form_rule made p kind ≡ made v.number kind
+  form_at kind = ap (λ f. f kind) (sym (made_at _ form_rule form_local _ _ (held_falls _ _ v.parts.now.falls) v.number p v.filled (sym at)))
 
-  pub form_bare : (q : Part) → p ≡ q → false ≡ part_needs p kind → form_rule (form (held t)) q State ≡ form (held t) n kind
-  form_bare q e bare = ap (λ r. form_rule (form (held t)) r State) (sym e)
-      ∙ (ap (λ b. enclosed b (form_rule (form (held t)) p State)) bare ∙ (rule_enclosed (form (held t)) p kind ∙ form_at kind))
+  pub form_enclosed : part_needs p v.kind ≡ true → 40 ∷ (made v.number State ++ (41 ∷ [])) ≡ made v.number v.kind
+  form_enclosed e = ap₂ enclosed (sym e) (sym (form_at State)) ∙ (rule_enclosed made p v.kind ∙ form_at v.kind)
+
+  pub form_bare : {q : Part} → p ≡ q → false ≡ part_needs p v.kind → form_rule made q State ≡ made v.number v.kind
+  form_bare {q} e bare = ap (λ r. form_rule made r State) (sym e)
+      ∙ (ap (λ b. enclosed b (form_rule made p State)) bare ∙ (rule_enclosed made p v.kind ∙ form_at v.kind))
