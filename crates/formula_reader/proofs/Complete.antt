@@ -6,14 +6,17 @@ use Rattle.property_text.specs.Faults.{Read}
 use Rattle.property_text.specs.Spelling.{Byte}
 use Rattle.property_text.proofs.Places.{gap_is}
 use Rattle.property_text.proofs.Spelled.{byte_is}
-use Rattle.formula_reader.specs.Reading.{Reader, Operator, conjunction, disjunction, sign, join, single, negated, factor_by, more, nested}
+use Rattle.formula_reader.specs.Reading.{Reader, single, negated, factor_by, more, nested}
 use Rattle.formula_reader.specs.Reading as reading
+use Rattle.formula_reader.specs.Operators.{sign, join}
+use Rattle.formula_reader.specs.declared.operator.Operator.{Operator}
+use Rattle.formula_reader.specs.declared.operator.Operator.TheVariants.{And, Or}
 use Rattle.property_parts.specs.declared.kinds.Kind.{Kind}
 use Rattle.property_parts.specs.declared.kinds.Kind.TheVariants.{State, Term, Factor}
 use Rattle.formula_reader.specs.Grammar.{Spells}
 use Rattle.formula_reader.specs.Grammar.Spells.{a_letter, no_such_letter, truth, falsehood, in_parentheses, one_factor, one_more_factor, one_term, one_more_term}
 use Rattle.formula_reader.proofs.Going.{join_root, turn, last}
-use Rattle.formula_reader.proofs.Steps.{is_lettered, factor_letter, factor_not, factor_top, factor_bottom, inside_closed}
+use Rattle.formula_reader.proofs.Steps.{is_lettered, factor_letter, factor_not, factor_top, factor_bottom, factor_open, inside_closed}
 
 module _ (s : List ℕ) (full : ℕ) where
   single_reads : (a : Formula) (b n i j : ℕ) → Byte s b i j → n < full → single s full a n i ≡ Ok (a, j)
@@ -37,9 +40,9 @@ module _ (s : List ℕ) (full : ℕ) where
   abbrev Reads : Kind → (d i j : ℕ) (a : Formula) → Type 0
   Reads Factor d i j a = (n : ℕ) → n + size a ≤ full → reading.factor s full d n i ≡ Ok (a, j)
   Reads Term d i j a = (n : ℕ) → n + size a ≤ full
-      → (t : ℕ) × (reading.term s full d n i ≡ more s full conjunction (reading.factor s full d) t n a j) × (full < t + (n + size a))
+      → (t : ℕ) × (reading.term s full d n i ≡ more s full And (reading.factor s full d) t n a j) × (full < t + (n + size a))
   Reads State d i j a = (get_or s j 0 ≡ 38 → ⊥) → (n : ℕ) → n + size a ≤ full
-      → (t : ℕ) × (reading.state s full d n i ≡ more s full disjunction (reading.term s full d) t n a j) × (full < t + (n + size a))
+      → (t : ℕ) × (reading.state s full d n i ≡ more s full Or (reading.term s full d) t n a j) × (full < t + (n + size a))
 
   -- one more item
   joins : (o : Operator) (item : Reader) (n j k l : ℕ) (a c : Formula) (g : Read (Formula × ℕ)) → n + size (join o a c) ≤ full
@@ -52,16 +55,17 @@ module _ (s : List ℕ) (full : ℕ) where
       (q.0, e ∙ (q.2 ∙ rw (gap_is s (j + 1) k tok.gap, r, fits) refl), omega arith)
 
   term_reads : (d n i j : ℕ) (a : Formula) → Reads Term d i j a → n + size a ≤ full → (get_or s j 0 ≡ 38 → ⊥) → reading.term s full d n i ≡ Ok (a, j)
-  term_reads d n i j a p r after = let q = p n r in q.1 ∙ last s full conjunction (reading.factor s full d) q.0 n a j after
+  term_reads d n i j a p r after = let q = p n r in q.1 ∙ last s full And (reading.factor s full d) q.0 n a j after
 
   state_reads : (d n i j : ℕ) (a : Formula) → Reads State d i j a → n + size a ≤ full → (get_or s j 0 ≡ 38 → ⊥) → (get_or s j 0 ≡ 124 → ⊥) → reading.state s full d n i ≡ Ok (a, j)
-  state_reads d n i j a p r after after₂ = let q = p after n r in q.1 ∙ last s full disjunction (reading.term s full d) q.0 n a j after₂
+  state_reads d n i j a p r after after₂ = let q = p after n r in q.1 ∙ last s full Or (reading.term s full d) q.0 n a j after₂
 
   parentheses_read : (d n i j k l : ℕ) (a : Formula) → Byte s 40 i j → Reads State d j k a → n + size a ≤ full → Byte s 41 k l → reading.factor s full (suc d) n i ≡ Ok (a, l)
   parentheses_read d n i j k l a t p r u =
       let e : suc d - 1 ≡ d = omega arith in
       let h = state_reads d n j k a p r (λ e. absurd (omega (arith, e, u.stands))) (λ e. absurd (omega (arith, e, u.stands))) in
-      inside_closed s full n i (suc d) j t.stands (λ e. absurd (omega arith)) (sym (gap_is s (i + 1) j t.gap)) a k l (ap (λ x. reading.state s full x n j) e ∙ h) (byte_is s 41 k l u)
+      factor_open s full (nested s full (suc d)) n i t.stands
+      ∙ inside_closed s full n i (suc d) (omega arith) refl (sym (gap_is s (i + 1) j t.gap)) refl a k (ap (λ x. reading.state s full x n j) e ∙ h) l (sym (byte_is s 41 k l u))
 
   reads : {k : Kind} {d i j : ℕ} {a : Formula} → Spells s k d i j a → Reads k d i j a
   reads (a_letter {d} l h t) = λ n r. letter_reads (nested s full d) n _ _ l h t (omega arith)
@@ -71,10 +75,10 @@ module _ (s : List ℕ) (full : ℕ) where
   reads (in_parentheses t p u) = λ n r. parentheses_read _ n _ _ _ _ _ t (reads p) r u
   reads (one_factor p) = λ n r. (full, rw (reads p n r) refl, omega arith)
   reads (one_more_factor {d} {a = a} {b = b} p t q) = λ n r.
-      joins conjunction (reading.factor s full d) n _ _ _ a b _ r (reads p n (omega arith)) t (reads q (n + size a) (omega arith))
+      joins And (reading.factor s full d) n _ _ _ a b _ r (reads p n (omega arith)) t (reads q (n + size a) (omega arith))
   reads (one_term p) = λ after n r. (full, rw (term_reads _ n _ _ _ (reads p) r after) refl, omega arith)
   reads (one_more_term {d} {a = a} {b = b} p t q) = λ after n r.
-      joins disjunction (reading.term s full d) n _ _ _ a b _ r (reads p (λ e. absurd (omega (arith, e, t.stands))) n (omega arith)) t
+      joins Or (reading.term s full d) n _ _ _ a b _ r (reads p (λ e. absurd (omega (arith, e, t.stands))) n (omega arith)) t
       (term_reads d (n + size a) _ _ b (reads q) (omega arith) after)
 
   -- where what follows a state is no `&` and no `|`

@@ -5,28 +5,25 @@ use Rattle.refusal.specs.declared.Refusal.{Refusal}
 use Rattle.property_parts.specs.Formula.{Formula, root, size, parts_of}
 use Rattle.property_parts.specs.Parts.{most_parts}
 use Rattle.property_parts.specs.declared.parts.Part.{Part}
-use Rattle.property_parts.specs.declared.parts.Part.TheVariants.{And, Or}
 use Rattle.property_parts.specs.declared.table.PartTable.{PartTable}
 use Rattle.property_text.specs.Faults.{refused, ◌>>=◌}
 use Rattle.property_text.specs.Tokens.{past}
 use Rattle.property_text.specs.declared.fault.PropertyFault.{PropertyFault}
 use Rattle.property_text.specs.declared.fault.PropertyFault.TheVariants.{TooManyParts}
-use Rattle.formula_reader.specs.Reading.{Reader, Operator, conjunction, disjunction, sign, join, room, more, joined}
+use Rattle.formula_reader.specs.Operators.{sign, join, part}
+use Rattle.formula_reader.specs.Reading.{Reader, room, more, joined}
+use Rattle.formula_reader.specs.declared.operator.Operator.{Operator}
+use Rattle.formula_reader.specs.declared.operator.Operator.TheVariants.{And, Or}
 use Rattle.property_parts.specs.Table.{held, Filled}
 use Rattle.formula_reader.specs.Answers.{Made}
 
--- the part of an operator
-abbrev pub part : Operator → ℕ → ℕ → Part
-part conjunction = And
-part disjunction = Or
-
 pub join_root : (o : Operator) (a b : Formula) → root (join o a b) ≡ size a + size b
-join_root conjunction a b = refl
-join_root disjunction a b = refl
+join_root And a b = refl
+join_root Or a b = refl
 
 join_parts : (o : Operator) (n : ℕ) (a b : Formula) → parts_of n (join o a b) ≡ (parts_of n a ++ parts_of (n + size a) b) ++ (part o (n + root a) ((n + size a) + root b) ∷ [])
-join_parts conjunction n a b = refl
-join_parts disjunction n a b = refl
+join_parts And n a b = refl
+join_parts Or n a b = refl
 
 module _ (s : List ℕ) (full : ℕ) (o : Operator) (item : Reader) where
   -- a turn, where there is one more item
@@ -57,72 +54,87 @@ Goes s o item start first i after number at =
     (n : ℕ) (a : Formula) (before : List Part) → first ≡ n + root a → start.count ≡ n + size a → held start ≡ before ++ parts_of n a
     → Going s o item n a i before after number at
 
+-- an operator stands at i, and behind it the text u is read from j on
+pub record Behind (s : List ℕ) (o : Operator) (i : ℕ) (u : List ℕ) (j : ℕ) : Type 0 where
+  pub here : get_or s i 0 ≡ sign o
+  pub same : u ≡ s
+  pub next : j ≡ past s (i + 1)
+
+pub behind : {s t u : List ℕ} {o : Operator} {i j b c : ℕ} → t ≡ s → b ≡ get_or t i 0 → b ≡ c → c ≡ sign o → u ≡ t → j ≡ past t (i + 1) → Behind s o i u j
+behind {s} {t} {u} {o} {i} {j} e f g h k l =
+    record { here = ap (λ x. get_or x i 0) (sym e) ∙ (sym f ∙ (g ∙ h)); same = k ∙ e; next = l ∙ ap (λ x. past x (i + 1)) e }
+
 grown : (mk : ℕ → ℕ → Part) (left before after after₁ after₂ : List Part) (right : ℕ → List Part) (m k v v₁ x y : ℕ)
     → m ≡ k → v ≡ x → v₁ ≡ m + y → after ≡ before ++ left → after₁ ≡ after ++ right m → after₂ ≡ after₁ ++ (mk v v₁ ∷ [])
     → after₂ ≡ before ++ ((left ++ right k) ++ (mk x (k + y) ∷ []))
 grown mk left before after after₁ after₂ right m k v v₁ x y em ev ev₁ e e₁ e₂ = rw (e₂, e₁, e, ev₁, ev, em) (simp append_assoc)
 
-module _ (s : List ℕ) (o : Operator) (item : Reader) where
+module _ (s : List ℕ) (o : Operator) (items : List ℕ → Reader) where
+  abbrev item : Reader
+  item = items s
+
   pub going_start : (start : PartTable) (first i : ℕ) → Goes s o item start first i start first i
   going_start start first i n a before e f p =
       record { formula = a; turns = most_parts; same = refl; own = e; count = f; parts = p; enough = omega arith }
 
-  module _ {n : ℕ} {a : Formula} {i : ℕ} {before : List Part} {after : PartTable} {number at : ℕ} (g : Going s o item n a i before after number at) where
-    module _ (few : after.count ≤ most_parts) (q : get_or s at 0 ≡ sign o) where
-      abbrev rest : (u : ℕ) × (g.turns ≡ u + 1) × (more s most_parts o item g.turns n g.formula at ≡ (item after.count (past s (at + 1)) >>= (λ c. room most_parts (after.count + size c.0) at (more s most_parts o item u n (join o g.formula c.0) c.1))))
-      rest = turn s most_parts o item g.turns n g.formula at after.count g.count g.enough few q
+  module _ {n : ℕ} {a : Formula} {i : ℕ} {before : List Part} {after : PartTable} {number at : ℕ} (g : Going s o item n a i before after number at)
+      (few : after.count ≤ most_parts) {u : List ℕ} {j : ℕ} (b : Behind s o at u j) where
+    abbrev rest : (t : ℕ) × (g.turns ≡ t + 1) × (more s most_parts o item g.turns n g.formula at ≡ (item after.count (past s (at + 1)) >>= (λ c. room most_parts (after.count + size c.0) at (more s most_parts o item t n (join o g.formula c.0) c.1))))
+    rest = turn s most_parts o item g.turns n g.formula at after.count g.count g.enough few b.here
 
-      pub going_bad : {r : Refusal PropertyFault} → item after.count (past s (at + 1)) ≡ Err r → more s most_parts o item most_parts n a i ≡ Err r
-      going_bad h = g.same ∙ (rest.2 ∙ rw h refl)
+    item_is : item after.count (past s (at + 1)) ≡ items u after.count j
+    item_is = rw (b.same, b.next) refl
 
-      module _ {after₁ : PartTable} {number₁ next : ℕ} (d : Made (item after.count (past s (at + 1))) after after₁ number₁ next) where
-        pub going_full : after₁.count ≡ most_parts → more s most_parts o item most_parts n a i ≡ refused TooManyParts at
-        going_full f =
-            let full : ltb (after.count + size d.formula) most_parts ≡ false = le-ltb _ _ (omega (arith, d.count)) in
-            g.same ∙ (rest.2 ∙ rw (d.read, full) refl)
+    pub going_bad : {r : Refusal PropertyFault} → items u after.count j ≡ Err r → more s most_parts o item most_parts n a i ≡ Err r
+    going_bad h = g.same ∙ (rest.2 ∙ rw (item_is ∙ h) refl)
 
-        pub going_on : {after₂ : PartTable} {number₂ : ℕ} → Filled after₁ (part o number number₁) after₂ number₂ → Going s o item n a i before after₂ number₂ next
-        going_on {after₂} {number₂} new =
-            let small = new.small in
-            let en = new.own in
-            let ec = new.count in
-            let f : ltb (after.count + size d.formula) most_parts ≡ true = lt-ltb _ _ (omega (arith, d.count)) in
-            let u = join_root o g.formula d.formula in
-            record {
-              formula = join o g.formula d.formula;
-              turns = rest.0;
-              same = g.same ∙ (rest.2 ∙ rw (d.read, f) refl);
-              own = omega (arith, g.count, d.count, u);
-              count = omega (arith, g.count, d.count, u);
-              parts = grown (part o) (parts_of n g.formula) before (held after) (held after₁) (held after₂) (λ k. parts_of k d.formula) after.count (n + size g.formula)
-                  number number₁ (n + root g.formula) (root d.formula) g.count g.own d.own g.parts d.parts new.parts
-                  ∙ ap (λ l. before ++ l) (sym (join_parts o n g.formula d.formula));
-              enough = omega (arith, g.enough, rest.1, g.count, d.count);
-            }
+    module _ {after₁ : PartTable} {number₁ next : ℕ} (d : Made (items u after.count j) after after₁ number₁ next) where
+      pub going_full : after₁.count ≡ most_parts → more s most_parts o item most_parts n a i ≡ refused TooManyParts at
+      going_full f =
+          let full : ltb (after.count + size d.formula) most_parts ≡ false = le-ltb _ _ (omega (arith, d.count)) in
+          g.same ∙ (rest.2 ∙ rw (item_is ∙ d.read, full) refl)
 
--- a loop over the items behind the first one
-module _ (s : List ℕ) (o : Operator) (item : Reader) {start mid after : PartTable} {at first end number here : ℕ}
-    (made : Made (item start.count at) start mid first end) (goes : Goes s o item mid first end after number here) where
-  abbrev going : Going s o item start.count made.formula end (held start) after number here
-  going = goes start.count made.formula (held start) made.own made.count made.parts
+      pub going_on : {p : Part} {after₂ : PartTable} {number₂ : ℕ} → p ≡ part o number number₁ → Filled after₁ p after₂ number₂ → Going s o item n a i before after₂ number₂ next
+      going_on {p} {after₂} {number₂} is new =
+          let small = new.small in
+          let en = new.own in
+          let ec = new.count in
+          let f : ltb (after.count + size d.formula) most_parts ≡ true = lt-ltb _ _ (omega (arith, d.count)) in
+          let w = join_root o g.formula d.formula in
+          record {
+            formula = join o g.formula d.formula;
+            turns = rest.0;
+            same = g.same ∙ (rest.2 ∙ rw (item_is ∙ d.read, f) refl);
+            own = omega (arith, g.count, d.count, w);
+            count = omega (arith, g.count, d.count, w);
+            parts = grown (part o) (parts_of n g.formula) before (held after) (held after₁) (held after₂) (λ k. parts_of k d.formula) after.count (n + size g.formula)
+                number number₁ (n + root g.formula) (root d.formula) g.count g.own d.own g.parts d.parts (new.parts ∙ ap (λ x. held after₁ ++ (x ∷ [])) is)
+                ∙ ap (λ l. before ++ l) (sym (join_parts o n g.formula d.formula));
+            enough = omega (arith, g.enough, rest.1, g.count, d.count);
+          }
 
-  begun : joined s most_parts o item start.count at ≡ more s most_parts o item most_parts start.count made.formula end
-  begun = rw made.read refl
+  -- a loop over the items behind the first one
+  module _ {start mid after : PartTable} {at first end number here : ℕ} (made : Made (item start.count at) start mid first end) (goes : Goes s o item mid first end after number here) where
+    abbrev going : Going s o item start.count made.formula end (held start) after number here
+    going = goes start.count made.formula (held start) made.own made.count made.parts
 
-  pub loop_end : (get_or s here 0 ≡ sign o → ⊥) → Made (joined s most_parts o item start.count at) start after number here
-  loop_end q =
-      record {
-        formula = going.formula;
-        read = begun ∙ (going.same ∙ last s most_parts o item going.turns start.count going.formula here q);
-        own = going.own;
-        count = going.count;
-        parts = going.parts;
-      }
+    begun : joined s most_parts o item start.count at ≡ more s most_parts o item most_parts start.count made.formula end
+    begun = rw made.read refl
 
-  module _ (few : after.count ≤ most_parts) (q : get_or s here 0 ≡ sign o) where
-    pub loop_bad : {r : Refusal PropertyFault} → item after.count (past s (here + 1)) ≡ Err r → joined s most_parts o item start.count at ≡ Err r
-    loop_bad h = begun ∙ going_bad s o item going few q h
+    pub loop_end : (get_or s here 0 ≡ sign o → ⊥) → Made (joined s most_parts o item start.count at) start after number here
+    loop_end q =
+        record {
+          formula = going.formula;
+          read = begun ∙ (going.same ∙ last s most_parts o item going.turns start.count going.formula here q);
+          own = going.own;
+          count = going.count;
+          parts = going.parts;
+        }
 
-    pub loop_full : {after₁ : PartTable} {number₁ next : ℕ} → Made (item after.count (past s (here + 1))) after after₁ number₁ next → after₁.count ≡ most_parts
-        → joined s most_parts o item start.count at ≡ refused TooManyParts here
-    loop_full d f = begun ∙ going_full s o item going few q d f
+    module _ (few : after.count ≤ most_parts) {u : List ℕ} {j : ℕ} (b : Behind s o here u j) where
+      pub loop_bad : {r : Refusal PropertyFault} → items u after.count j ≡ Err r → joined s most_parts o item start.count at ≡ Err r
+      loop_bad h = begun ∙ going_bad going few b h
+
+      pub loop_full : {after₁ : PartTable} {number₁ next : ℕ} → Made (items u after.count j) after after₁ number₁ next → after₁.count ≡ most_parts
+          → joined s most_parts o item start.count at ≡ refused TooManyParts here
+      loop_full d f = begun ∙ going_full going few b d f

@@ -9,8 +9,11 @@ use Rattle.property_text.specs.Spelling.{Byte}
 use Rattle.property_text.proofs.Places.{gap_past}
 use Rattle.property_text.proofs.Read.{err_ok, then_ok, test_ok}
 use Rattle.property_text.proofs.Spelled.{byte_was}
-use Rattle.formula_reader.specs.Reading.{Reader, Operator, conjunction, disjunction, sign, join, lettered, room, single, negated, more, nested}
+use Rattle.formula_reader.specs.Reading.{Reader, lettered, room, single, negated, more, nested}
 use Rattle.formula_reader.specs.Reading as reading
+use Rattle.formula_reader.specs.Operators.{sign, join}
+use Rattle.formula_reader.specs.declared.operator.Operator.{Operator}
+use Rattle.formula_reader.specs.declared.operator.Operator.TheVariants.{And, Or}
 use Rattle.property_parts.specs.declared.kinds.Kind.{Kind}
 use Rattle.property_parts.specs.declared.kinds.Kind.TheVariants.{State, Term, Factor}
 use Rattle.formula_reader.specs.Grammar.{Spells}
@@ -93,14 +96,14 @@ module _ (s : List ℕ) where
   term_sound d inner n i a e =
       let h = then_ok (reading.factor s most_parts d n i) _ e in
       let p = factor_sound d inner n i h.0 h.1 in
-      more_sound conjunction (reading.factor s most_parts d) Term Factor d (λ i j k l a b x t y. one_more_factor x t y) (factor_sound d inner) most_parts n i h.0.1 h.0.0 a
+      more_sound And (reading.factor s most_parts d) Term Factor d (λ i j k l a b x t y. one_more_factor x t y) (factor_sound d inner) most_parts n i h.0.1 h.0.0 a
       (record { spelled = one_factor p.spelled; fits = p.fits }) h.2
 
   state_sound : (d : ℕ) → Inner d → (n i : ℕ) (a : Formula × ℕ) → reading.state s most_parts d n i ≡ Ok a → Sound s State d n i a
   state_sound d inner n i a e =
       let h = then_ok (reading.term s most_parts d n i) _ e in
       let p = term_sound d inner n i h.0 h.1 in
-      more_sound disjunction (reading.term s most_parts d) State Term d (λ i j k l a b x t y. one_more_term x t y) (term_sound d inner) most_parts n i h.0.1 h.0.0 a
+      more_sound Or (reading.term s most_parts d) State Term d (λ i j k l a b x t y. one_more_term x t y) (term_sound d inner) most_parts n i h.0.1 h.0.0 a
       (record { spelled = one_term p.spelled; fits = p.fits }) h.2
 
   inner_sound : (d : ℕ) → Inner d

@@ -1,42 +1,29 @@
 -- What a factor gives, by the byte that it begins with.
-use Rattle.std.proofs.Common.{◌≡◌, ℕ, zero, suc, ◌+◌, ◌-◌, ◌≤◌, true, ltb, List, get_or, Ok, Err, Result, sym, refl, ap, ◌∙◌, append_assoc, arith}
+use Rattle.std.proofs.Common.{◌≡◌, ℕ, zero, suc, ◌+◌, ◌-◌, ◌<◌, ◌≤◌, true, cond, ltb, List, get_or, Ok, Err, Result, sym, refl, ap, ◌∙◌, arith}
 use Rattle.std.proofs.lemmas.Bool.{lt-ltb, le-leb, and_from}
 use Rattle.refusal.specs.declared.Refusal.{Refusal}
-use Rattle.property_parts.specs.Formula.{Formula, letter, no_letter, top, bottom}
-use Rattle.property_parts.specs.Parts.{most_parts}
-use Rattle.property_parts.specs.declared.parts.Part.TheVariants.{Letter, Not}
+use Rattle.property_parts.specs.Formula.{Formula, letter, top, bottom}
 use Rattle.property_parts.specs.declared.table.PartTable.{PartTable}
-use Rattle.property_text.specs.Faults.{Read, refused, ◌>>=◌}
+use Rattle.property_text.specs.Faults.{Read, ◌>>=◌}
 use Rattle.property_text.specs.Tokens.{past, byte}
 use Rattle.property_text.specs.declared.fault.PropertyFault.{PropertyFault}
 use Rattle.property_text.specs.declared.fault.PropertyFault.TheVariants.{TooDeep}
-use Rattle.formula_reader.specs.Reading.{Reader, lettered, single, negated, factor_by, nested, factor, state}
-use Rattle.property_parts.specs.Table.{Filled}
+use Rattle.property_text.proofs.Read.{err_ok}
+use Rattle.formula_reader.specs.Reading.{Reader, lettered, single, lone_letter, negated, factor_by, nested, state}
 use Rattle.formula_reader.specs.Answers.{Made, Answers}
+use Rattle.formula_reader.specs.declared.reader.FormulaReader.{FormulaReader}
 
 -- the same, of what is equal to it
 pub made_as : {g h : Read (Formula × ℕ)} {before after : PartTable} {number next : ℕ} → h ≡ g → Made g before after number next → Made h before after number next
 made_as e m = record { formula = m.formula; read = e ∙ m.read; own = m.own; count = m.count; parts = m.parts }
 
-pub answers_as : {g h : Read (Formula × ℕ)} (before after : PartTable) (r : Result (ℕ × ℕ) (Refusal PropertyFault)) → h ≡ g → Answers g before after r → Answers h before after r
-answers_as before after (Ok v) e m = made_as e m
-answers_as before after (Err f) e m = e ∙ m
+pub answers_as : (reading same : Reader) (before after : FormulaReader) (r : Result ℕ (Refusal PropertyFault))
+    → same before.parts.count before.tokens.at ≡ reading before.parts.count before.tokens.at → Answers reading before after r → Answers same before after r
+answers_as reading same before after (Ok number) e m = made_as e m
+answers_as reading same before after (Err refusal) e m = e ∙ m
 
 pub is_lettered : (c : ℕ) → 97 ≤ c → c ≤ 112 → lettered c ≡ true
 is_lettered c l u = and_from _ _ (le-leb 97 c l) (le-leb c 112 u)
-
-pub negated_made : (s : List ℕ) (p i : ℕ) (start mid after : PartTable) (k v next : ℕ) → lettered (get_or s i 0) ≡ true → next ≡ past s (i + 1)
-    → Filled start (Letter (get_or s i 0 - 97)) mid k → Filled mid (Not k) after v → Made (negated s most_parts start.count p i) start after v next
-negated_made s p i start mid after k v next t en a b =
-    let f₁ : ltb start.count most_parts ≡ true = lt-ltb _ _ (omega (arith, a.small, a.own)) in
-    let f₂ : ltb (start.count + 1) most_parts ≡ true = lt-ltb _ _ (omega (arith, a.own, a.count, b.small, b.own)) in
-    record {
-      formula = no_letter (get_or s i 0 - 97);
-      read = rw (t, f₁, f₂, en);
-      own = omega (arith, a.own, a.count, b.own);
-      count = omega (arith, a.own, a.count, b.own, b.count);
-      parts = b.parts ∙ rw (a.parts, a.own) (simp append_assoc);
-    }
 
 module _ (s : List ℕ) (full : ℕ) (inner : Reader) (n i : ℕ) where
   pub factor_letter : 97 ≤ get_or s i 0 → get_or s i 0 ≤ 112 → factor_by s full inner n i ≡ single s full (letter (get_or s i 0 - 97)) n i
@@ -55,26 +42,34 @@ module _ (s : List ℕ) (full : ℕ) (inner : Reader) (n i : ℕ) where
   factor_open e = rw e
 
 module _ (s : List ℕ) (full n i : ℕ) where
-  pub nested_none : (d : ℕ) → d ≡ 0 → nested s full d n i ≡ refused TooDeep i
-  unfolding nested
-  nested_none d e = rw e
+  pub lone_letter_at : (b : ℕ) → b ≡ get_or s i 0 → lettered b ≡ true → lone_letter s full n i ≡ single s full (letter (b - 97)) n i
+  lone_letter_at b e q = rw (sym e, q) refl
 
-  pub nested_more : (d : ℕ) → (d ≡ 0 → ⊥) → nested s full d n i ≡ (state s full (d - 1) n (past s (i + 1)) >>= (λ a. byte s 41 a.1 >>= (λ k. Ok (a.0, k))))
+  -- where the demand that one more parenthesis may be open is not met
+  pub nested_refused : {A : Type 0} (d : ℕ) (a : A) (r : Refusal PropertyFault) → Err r ≡ cond (ltb 0 d) (Ok a) (Err (record { fault = TooDeep; place = i })) → nested s full d n i ≡ Err r
   unfolding nested
-  nested_more zero h = absurd (h refl)
+  nested_refused zero a r e = cc
+  nested_refused (suc d) a r e = let open_one : ltb 0 (suc d) ≡ true = lt-ltb _ _ (omega arith) in err_ok (rw open_one at e)
+
+  nested_more : (d : ℕ) → 0 < d → nested s full d n i ≡ (state s full (d - 1) n (past s (i + 1)) >>= (λ a. byte s 41 a.1 >>= (λ k. Ok (a.0, k))))
+  unfolding nested
+  nested_more zero h = absurd (omega arith)
   nested_more (suc d) h = let e : suc d - 1 ≡ d = omega arith in rw e
 
--- a formula in parentheses, whose first token is at j
-module _ (s : List ℕ) (full n i d j : ℕ) (open_here : get_or s i 0 ≡ 40) (deeper : d ≡ 0 → ⊥) (next : j ≡ past s (i + 1)) where
-  inside : factor s full d n i ≡ (state s full (d - 1) n j >>= (λ a. byte s 41 a.1 >>= (λ k. Ok (a.0, k))))
-  inside = factor_open s full (nested s full d) n i open_here
-      ∙ (nested_more s full n i d deeper ∙ ap (λ k. state s full (d - 1) n k >>= (λ a. byte s 41 a.1 >>= (λ k. Ok (a.0, k)))) (sym next))
+-- a formula in parentheses, the first of which is at i; behind it the text u is read from j on, and from k on the text v
+module _ (s : List ℕ) (full n i d : ℕ) (deeper : 0 < d) {u : List ℕ} {j : ℕ} (same : u ≡ s) (next : j ≡ past s (i + 1)) where
+  inside : nested s full d n i ≡ (state u full (d - 1) n j >>= (λ a. byte s 41 a.1 >>= (λ k. Ok (a.0, k))))
+  inside = rw (same, next) (nested_more s full n i d deeper)
 
-  pub inside_bad : {r : Refusal PropertyFault} → state s full (d - 1) n j ≡ Err r → factor s full d n i ≡ Err r
+  pub inside_bad : {r : Refusal PropertyFault} → state u full (d - 1) n j ≡ Err r → nested s full d n i ≡ Err r
   inside_bad h = inside ∙ rw h refl
 
-  pub inside_unclosed : {r : Refusal PropertyFault} (a : Formula) (k : ℕ) → state s full (d - 1) n j ≡ Ok (a, k) → byte s 41 k ≡ Err r → factor s full d n i ≡ Err r
-  inside_unclosed a k h b = inside ∙ rw (h, b) refl
+  module _ {v : List ℕ} (still : v ≡ u) (a : Formula) (k : ℕ) (h : state u full (d - 1) n j ≡ Ok (a, k)) where
+    closing : byte v 41 k ≡ byte s 41 k
+    closing = ap (λ x. byte x 41 k) (still ∙ same)
 
-  pub inside_closed : (a : Formula) (k l : ℕ) → state s full (d - 1) n j ≡ Ok (a, k) → byte s 41 k ≡ Ok l → factor s full d n i ≡ Ok (a, l)
-  inside_closed a k l h b = inside ∙ rw (h, b) refl
+    pub inside_unclosed : {r : Refusal PropertyFault} → Err r ≡ byte v 41 k → nested s full d n i ≡ Err r
+    inside_unclosed b = inside ∙ rw (h, sym (b ∙ closing)) refl
+
+    pub inside_closed : (l : ℕ) → Ok l ≡ byte v 41 k → nested s full d n i ≡ Ok (a, l)
+    inside_closed l b = inside ∙ rw (h, sym (b ∙ closing)) refl

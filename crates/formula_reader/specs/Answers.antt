@@ -1,4 +1,4 @@
--- How a reader's answer, which is a part's number and a place, goes with the formula that is read.
+-- How a reader's answer, which is a part's number, goes with the formula that is read.
 use Rattle.std.specs.Prelude.{◌≡◌, ℕ, ◌+◌, ◌++◌, Ok, Err, Result}
 use Rattle.refusal.specs.declared.Refusal.{Refusal}
 use Rattle.property_parts.specs.Formula.{Formula, root, size, parts_of}
@@ -6,6 +6,8 @@ use Rattle.property_parts.specs.Table.{held}
 use Rattle.property_parts.specs.declared.table.PartTable.{PartTable}
 use Rattle.property_text.specs.Faults.{Read}
 use Rattle.property_text.specs.declared.fault.PropertyFault.{PropertyFault}
+use Rattle.formula_reader.specs.Reading.{Reader}
+use Rattle.formula_reader.specs.declared.reader.FormulaReader.{FormulaReader}
 
 -- a formula was read up to `next`; its parts are put behind those that the table held, and `number` is its own
 pub record Made (g : Read (Formula × ℕ)) (before after : PartTable) (number next : ℕ) : Type 0 where
@@ -15,6 +17,7 @@ pub record Made (g : Read (Formula × ℕ)) (before after : PartTable) (number n
   pub count : after.count ≡ before.count + size formula
   pub parts : held after ≡ held before ++ parts_of before.count formula
 
-abbrev pub Answers : Read (Formula × ℕ) → PartTable → PartTable → Result (ℕ × ℕ) (Refusal PropertyFault) → Type 0
-Answers g before after (Ok v) = Made g before after v.0 v.1
-Answers g before after (Err r) = g ≡ Err r
+-- what is to be read was read from where the reader stood, up to where it stands now; or it was refused
+abbrev pub Answers : Reader → FormulaReader → FormulaReader → Result ℕ (Refusal PropertyFault) → Type 0
+Answers reading before after (Ok number) = Made (reading before.parts.count before.tokens.at) before.parts after.parts number after.tokens.at
+Answers reading before after (Err refusal) = reading before.parts.count before.tokens.at ≡ Err refusal

@@ -1,3 +1,4 @@
+pub mod Operators
 pub mod Reading
 pub mod Answers
 pub mod Grammar

@@ -1,25 +1,16 @@
 -- What is read of a formula at a place of a text, or why it is refused: a function of the text, the place, the parts filled before, and the limits.
 use Rattle.std.specs.Prelude.{ℕ, zero, suc, ◌+◌, ◌-◌, Bool, cond, ◌&&◌, List, Ok, ◌==◌, nat_le, nat_lt, slice_index}
-use Rattle.property_parts.specs.Formula.{Formula, letter, no_letter, top, bottom, and, or, size}
+use Rattle.property_parts.specs.Formula.{Formula, letter, no_letter, top, bottom, size}
 use Rattle.property_text.specs.Faults.{Read, refused, ◌>>=◌}
 use Rattle.property_text.specs.Tokens.{past, byte}
 use Rattle.property_text.specs.declared.fault.PropertyFault.TheVariants.{TokenMissing, TooDeep, TooManyParts}
+use Rattle.formula_reader.specs.Operators.{sign, join}
+use Rattle.formula_reader.specs.declared.operator.Operator.{Operator}
+use Rattle.formula_reader.specs.declared.operator.Operator.TheVariants.{And, Or}
 
 -- from how many parts are filled, and a place: a formula, and the place where the next token should begin
 abbrev pub Reader : Type 0
 Reader = ℕ → ℕ → Read (Formula × ℕ)
-
-pub data Operator : Type 0 where
-  conjunction : Operator
-  disjunction : Operator
-
-abbrev pub sign : Operator → ℕ
-sign conjunction = 38
-sign disjunction = 124
-
-abbrev pub join : Operator → Formula → Formula → Formula
-join conjunction = and
-join disjunction = or
 
 -- the byte is a letter from a to p
 abbrev pub lettered : ℕ → Bool
@@ -33,6 +24,9 @@ module _ (s : List ℕ) (full : ℕ) where
   -- a formula of one token
   abbrev pub single : Formula → Reader
   single a n i = room full n i (Ok (a, past s (i + 1)))
+
+  abbrev pub lone_letter : Reader
+  lone_letter n i = cond (lettered (slice_index s i)) (single (letter (slice_index s i - 97)) n i) (refused TokenMissing i)
 
   -- the letter behind a `!` that stands at p
   abbrev pub negated : ℕ → ℕ → ℕ → Read (Formula × ℕ)
@@ -64,7 +58,7 @@ module _ (s : List ℕ) (full : ℕ) where
   unfoldable pub nested : ℕ → Reader
   nested zero n i = refused TooDeep i
   nested (suc d) n i =
-      joined disjunction (joined conjunction (factor_by (nested d))) n (past s (i + 1))
+      joined Or (joined And (factor_by (nested d))) n (past s (i + 1))
       >>= (λ a. byte s 41 a.1 >>= (λ k. Ok (a.0, k)))
 
   -- where d more parentheses may be open
@@ -72,7 +66,12 @@ module _ (s : List ℕ) (full : ℕ) where
   factor d = factor_by (nested d)
 
   abbrev pub term : ℕ → Reader
-  term d = joined conjunction (factor d)
+  term d = joined And (factor d)
 
   abbrev pub state : ℕ → Reader
-  state d = joined disjunction (term d)
+  state d = joined Or (term d)
+
+  -- what the operator joins
+  abbrev pub item : Operator → ℕ → Reader
+  item And = factor
+  item Or = term

@@ -1,79 +1,98 @@
 //! State, term and factor, each reading with the others. The bytes that are left of the text fall from call to call.
-ghost use Rattle.std.specs.Prelude.{◌≤◌, IfOk};
+ghost use Rattle.std.specs.Prelude.{◌≡◌, ◌<◌, ◌≤◌, length, IfOk};
 ghost use Rattle.property_parts.specs.Parts.{most_parts};
-ghost use Rattle.formula_reader.specs.Reading.{state, term, factor};
+ghost use Rattle.formula_reader.specs.Reading.{state, term, factor, nested, item, joined};
 ghost use Rattle.formula_reader.specs.Answers.{Answers};
 
-use crate::tokens::{fill, read_negated, read_single};
-use property_parts::{Part, PartTable};
-use property_text::{PropertyFault, byte_at, past_spaces, read_byte, refuse};
-use refusal::Refusal;
+use crate::operator::Operator;
+use crate::reader::FormulaReader;
+use property_parts::Part;
+use property_text::PropertyFault;
+use refusal::{Refusal, demand};
 
-/// Reads terms joined by `|`, where `deeper` more parentheses may be open; answers the number of their part, and where the next token should begin.
-#[cycle(read_factor_read_state_read_term)]
-pub fn read_state(
-    text: &[u8],
-    at: usize,
-    parts: &mut PartTable,
-    deeper: usize,
-) -> Result<(u8, usize), Refusal<PropertyFault>>
-    ensures later { IfOk result (λ v. at ≤ v.1) }
-    ensures read { Answers (state text.now most_parts deeper parts.old.count at) parts.old parts.new result }
-{
-    let (mut left, mut end) = read_term(text, at, parts, deeper)?;
-    while byte_at(text, end) == b'|' {
-        let (right, next) = read_term(text, past_spaces(text, end + 1), parts, deeper)?;
-        left = fill(parts, Part::Or(left, right), end)?;
-        end = next;
+impl FormulaReader<'_> {
+    /// Reads terms joined by `|`, where `deeper` more parentheses may be open, and answers the number of their part.
+    #[cycle(formula)]
+    pub fn read_state(&mut self, deeper: usize) -> Result<u8, Refusal<PropertyFault>>
+        ensures read { Answers (state self.old.tokens.text.now most_parts deeper) self.old self.new result }
+        ensures later { IfOk result (λ _. self.old.tokens.at ≤ self.new.tokens.at) }
+        ensures text { self.new.tokens.text ≡ self.old.tokens.text }
+    {
+        self.read_joined(Operator::Or, deeper)
     }
-    Ok((left, end))
-}
 
-/// Reads factors joined by `&`.
-#[cycle(read_factor_read_state_read_term)]
-fn read_term(
-    text: &[u8],
-    at: usize,
-    parts: &mut PartTable,
-    deeper: usize,
-) -> Result<(u8, usize), Refusal<PropertyFault>>
-    ensures later { IfOk result (λ v. at ≤ v.1) }
-    ensures read { Answers (term text.now most_parts deeper parts.old.count at) parts.old parts.new result }
-{
-    let (mut left, mut end) = read_factor(text, at, parts, deeper)?;
-    while byte_at(text, end) == b'&' {
-        let (right, next) = read_factor(text, past_spaces(text, end + 1), parts, deeper)?;
-        left = fill(parts, Part::And(left, right), end)?;
-        end = next;
+    /// Reads factors joined by `&`.
+    #[cycle(formula)]
+    fn read_term(&mut self, deeper: usize) -> Result<u8, Refusal<PropertyFault>>
+        ensures read { Answers (term self.old.tokens.text.now most_parts deeper) self.old self.new result }
+        ensures later { IfOk result (λ _. self.old.tokens.at ≤ self.new.tokens.at) }
+        ensures text { self.new.tokens.text ≡ self.old.tokens.text }
+    {
+        self.read_joined(Operator::And, deeper)
     }
-    Ok((left, end))
-}
 
-/// Reads a letter, `!` and a letter, `T`, `F`, or a state formula in parentheses.
-#[cycle(read_factor_read_state_read_term)]
-fn read_factor(
-    text: &[u8],
-    at: usize,
-    parts: &mut PartTable,
-    deeper: usize,
-) -> Result<(u8, usize), Refusal<PropertyFault>>
-    ensures later { IfOk result (λ v. at ≤ v.1) }
-    ensures read { Answers (factor text.now most_parts deeper parts.old.count at) parts.old parts.new result }
-{
-    let byte = byte_at(text, at);
-    match byte {
-        b'a'..=b'p' => read_single(text, at, parts, Part::Letter(byte - b'a')),
-        b'!' => read_negated(text, past_spaces(text, at + 1), parts, at),
-        b'T' => read_single(text, at, parts, Part::True),
-        b'F' => read_single(text, at, parts, Part::False),
-        b'(' => {
-            if deeper == 0 {
-                return Err(refuse(PropertyFault::TooDeep, at));
-            }
-            let (number, end) = read_state(text, past_spaces(text, at + 1), parts, deeper - 1)?;
-            let next = read_byte(text, end, b')')?;
-            Ok((number, next))
+    /// Reads items joined by the operator, grouped from the left.
+    #[cycle(formula)]
+    fn read_joined(
+        &mut self,
+        operator: Operator,
+        deeper: usize,
+    ) -> Result<u8, Refusal<PropertyFault>>
+        ensures read { Answers (joined self.old.tokens.text.now most_parts operator (item self.old.tokens.text.now most_parts operator deeper)) self.old self.new result }
+        ensures later { IfOk result (λ _. self.old.tokens.at ≤ self.new.tokens.at) }
+        ensures text { self.new.tokens.text ≡ self.old.tokens.text }
+    {
+        let mut left = self.read_item(operator, deeper)?;
+        while self.tokens.byte() == operator.sign() {
+            let place = self.tokens.place();
+            self.tokens.advance();
+            let right = self.read_item(operator, deeper)?;
+            left = self.fill(operator.part(left, right), place)?;
         }
-        _ => Err(refuse(PropertyFault::TokenMissing, at)),
+        Ok(left)
+    }
+
+    /// Reads what the operator joins.
+    #[cycle(formula)]
+    fn read_item(&mut self, operator: Operator, deeper: usize) -> Result<u8, Refusal<PropertyFault>>
+        ensures read { Answers (item self.old.tokens.text.now most_parts operator deeper) self.old self.new result }
+        ensures later { IfOk result (λ _. self.old.tokens.at ≤ self.new.tokens.at) }
+        ensures text { self.new.tokens.text ≡ self.old.tokens.text }
+    {
+        match operator {
+            Operator::And => self.read_factor(deeper),
+            Operator::Or => self.read_term(deeper),
+        }
+    }
+
+    /// Reads a letter, `!` and a letter, `T`, `F`, or a state formula in parentheses.
+    #[cycle(formula)]
+    fn read_factor(&mut self, deeper: usize) -> Result<u8, Refusal<PropertyFault>>
+        ensures read { Answers (factor self.old.tokens.text.now most_parts deeper) self.old self.new result }
+        ensures later { IfOk result (λ _. self.old.tokens.at ≤ self.new.tokens.at) }
+        ensures text { self.new.tokens.text ≡ self.old.tokens.text }
+    {
+        match self.tokens.byte() {
+            b'!' => self.read_negated(),
+            b'T' => self.read_single(Part::True),
+            b'F' => self.read_single(Part::False),
+            b'(' => self.read_nested(deeper),
+            _ => self.read_letter(),
+        }
+    }
+
+    /// Reads a state formula between parentheses, the first of which stands here.
+    #[cycle(formula)]
+    fn read_nested(&mut self, deeper: usize) -> Result<u8, Refusal<PropertyFault>>
+        requires { self.old.tokens.at < length self.old.tokens.text.now }
+        ensures read { Answers (nested self.old.tokens.text.now most_parts deeper) self.old self.new result }
+        ensures later { IfOk result (λ _. self.old.tokens.at ≤ self.new.tokens.at) }
+        ensures text { self.new.tokens.text ≡ self.old.tokens.text }
+    {
+        demand(deeper > 0, PropertyFault::TooDeep, self.tokens.place())?;
+        self.tokens.advance();
+        let number = self.read_state(deeper - 1)?;
+        self.tokens.read_byte(b')')?;
+        Ok(number)
     }
 }

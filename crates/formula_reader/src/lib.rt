@@ -2,6 +2,8 @@
 #![tactic(auto)]
 
 mod formulas;
-mod tokens;
+mod operator;
+mod reader;
 
-pub use crate::formulas::read_state;
+pub use crate::operator::Operator;
+pub use crate::reader::FormulaReader;

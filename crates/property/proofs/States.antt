@@ -5,7 +5,10 @@ use Rattle.property_parts.specs.Formula.{Formula, letter, no_letter, top, bottom
 use Rattle.property_text.specs.Faults.{Read, ◌>>=◌}
 use Rattle.property_text.specs.Tokens.{past, byte}
 use Rattle.property_text.proofs.Alike.{Alike}
-use Rattle.formula_reader.specs.Reading.{Reader, Operator, conjunction, disjunction, sign, join, lettered, room, negated, factor_by, more, joined, nested, state}
+use Rattle.formula_reader.specs.Operators.{sign, join}
+use Rattle.formula_reader.specs.declared.operator.Operator.{Operator}
+use Rattle.formula_reader.specs.declared.operator.Operator.TheVariants.{And, Or}
+use Rattle.formula_reader.specs.Reading.{Reader, lettered, room, negated, factor_by, more, joined, nested, state}
 use Rattle.property.specs.Places.{Begins, PartByte}
 use Rattle.property.specs.Places.PartByte.{is_letter, is_not, is_top, is_bottom, is_and, is_or}
 use Rattle.property.proofs.Laws.{Law, stops, law_back, law_then, law_test, law_past, law_ok, law_missing, law_byte}
@@ -15,8 +18,8 @@ abbrev behind : Formula × ℕ → ℕ
 behind a = a.1
 
 sign_part : (o : Operator) {b : ℕ} → b ≡ sign o → PartByte b
-sign_part conjunction e = is_and e
-sign_part disjunction e = is_or e
+sign_part And e = is_and e
+sign_part Or e = is_or e
 
 letter_part : (b : ℕ) → lettered b ≡ true → PartByte b
 letter_part b q = let p = and_parts (leb 97 b) (leb b 112) q in is_letter (leb-true 97 b p.0) (leb-true b 112 p.1)
@@ -84,11 +87,11 @@ module _ {seen : ℕ} {s t : List ℕ} (alike : Alike seen s t) (full : ℕ) whe
   law_joined o item item' items n i w = law_then _ _ (items n i w) (λ a e b. law_more o item item' items full n a.0 a.1 b)
 
   law_inside : (inner inner' : Reader) → ((n i : ℕ) → get_or s i 0 ≡ 40 → Law seen s behind i (inner n i) (inner' n i))
-      → Lawful (joined s full disjunction (joined s full conjunction (factor_by s full inner)))
-      (joined t full disjunction (joined t full conjunction (factor_by t full inner')))
+      → Lawful (joined s full Or (joined s full And (factor_by s full inner)))
+      (joined t full Or (joined t full And (factor_by t full inner')))
   law_inside inner inner' law =
-      law_joined disjunction (joined s full conjunction (factor_by s full inner)) (joined t full conjunction (factor_by t full inner'))
-      (law_joined conjunction (factor_by s full inner) (factor_by t full inner') (law_factor inner inner' law))
+      law_joined Or (joined s full And (factor_by s full inner)) (joined t full And (factor_by t full inner'))
+      (law_joined And (factor_by s full inner) (factor_by t full inner') (law_factor inner inner' law))
 
   law_nested : (d n i : ℕ) → get_or s i 0 ≡ 40 → Law seen s behind i (nested s full d n i) (nested t full d n i)
   unfolding nested

@@ -1,14 +1,13 @@
 -- The whole text is read exactly where it spells a property.
-use Rattle.std.proofs.Common.{◌≡◌, ℕ, ◌<◌, ◌≤◌, true, ◌&&◌, eqb, ltb, leb, List, length, Ok, Err, sym, refl, ap, ◌∙◌, subst, inl, inr, arith}
-use Rattle.std.proofs.lemmas.Bool.{ltb-false, leb-true, eqb-true, lt-ltb, le-ltb, le-leb, eq-eqb, and_parts, cases_Bool}
+use Rattle.std.proofs.Common.{◌≡◌, ℕ, ◌≤◌, true, ◌&&◌, eqb, ltb, leb, List, length, Ok, Err, sym, refl, ap, ◌∙◌, subst, inl, inr, arith}
+use Rattle.std.proofs.lemmas.Bool.{ltb-false, leb-true, eqb-true, le-ltb, le-leb, eq-eqb, and_parts, cases_Bool}
 use Rattle.refusal.specs.declared.Refusal.{Refusal}
 use Rattle.property_parts.specs.Formula.{size}
 use Rattle.property_parts.specs.Parts.{most_parts}
-use Rattle.property_text.specs.Faults.{Read, refused}
+use Rattle.property_text.specs.Faults.{Read}
 use Rattle.property_text.specs.Tokens.{past, byte, at_most, number}
 use Rattle.property_text.specs.Spelling.{Byte, AtMost, Number}
 use Rattle.property_text.specs.declared.fault.PropertyFault.{PropertyFault}
-use Rattle.property_text.specs.declared.fault.PropertyFault.TheVariants.{TextTooLong}
 use Rattle.property_text.proofs.Places.{gap_past, gap_is}
 use Rattle.property_text.proofs.Read.{err_ok, then_ok, test_ok}
 use Rattle.property_text.proofs.Spelled.{byte_is, byte_was, at_most_is, at_most_was}
@@ -21,10 +20,6 @@ use Rattle.property.specs.Asked.{Asked}
 use Rattle.property.specs.Grammar.{Spelled}
 use Rattle.property.specs.Reading.{lower, opening, until, closing, whole, read}
 use Rattle.property.specs.declared.ceiling.Ceiling.{Ceiling}
-
-pub read_long : (s : List ℕ) → most_bytes < length s → read s ≡ refused TextTooLong most_bytes
-unfolding read
-read_long s h = rw (lt-ltb most_bytes (length s) h)
 
 pub read_short : (s : List ℕ) → length s ≤ most_bytes → read s ≡ whole s (past s 0)
 unfolding read

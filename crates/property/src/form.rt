@@ -1,5 +1,5 @@
 //! The written form of a property.
-ghost use Rattle.std.specs.Prelude.{Some};
+ghost use Rattle.std.specs.Prelude.{◌≡◌, Some};
 ghost use Rattle.property.specs.Meaning.{meaning};
 ghost use Rattle.property.specs.Written.{written};
 
@@ -14,12 +14,8 @@ impl fmt::Display for Property {
         let upper = self.ceiling.upper;
         let lower = self.ceiling.lower;
         let hops = self.hop_bound;
-        write!(f, "P<={upper}/{lower}[")?;
-        self.parts
-            .write_part(self.ground_part as usize, Kind::State, f)?;
-        write!(f, " U<={hops} ")?;
-        self.parts
-            .write_part(self.goal_part as usize, Kind::State, f)?;
-        f.write_str("]")
+        let ground = self.parts.form(self.ground_part as usize, Kind::State);
+        let goal = self.parts.form(self.goal_part as usize, Kind::State);
+        write!(f, "P<={upper}/{lower}[{ground} U<={hops} {goal}]")
     }
 }

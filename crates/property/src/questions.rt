@@ -16,13 +16,13 @@ impl Property {
         ensures { answer (codes "P<=0/1[F U<=0 F]") ≡ Ok (meaning result) }
     {
         let mut parts = PartTable::new();
-        let ground = parts.fill(Part::False).unwrap_or(0);
-        let goal = parts.fill(Part::False).unwrap_or(0);
+        let ground_part = parts.fill(Part::False).unwrap();
+        let goal_part = parts.fill(Part::False).unwrap();
         Property {
             ceiling: Ceiling { upper: 0, lower: 1 },
             hop_bound: 0,
-            ground_part: ground,
-            goal_part: goal,
+            ground_part,
+            goal_part,
             parts,
         }
     }

@@ -1,5 +1,6 @@
 //! The reader of a property's text.
 ghost use Rattle.std.specs.Prelude.{◌≡◌, ◌≤◌, IfOk, Ok, Err, MatchResult};
+ghost use Rattle.property_text.specs.Faults.{ended, up_to};
 ghost use Rattle.property.specs.Limits.{most_lower, most_hops};
 ghost use Rattle.property.specs.Reading.{lower as lower-number, hops as hops-number, opening, until, closing, answer};
 ghost use Rattle.property.specs.Meaning.{meaning};
@@ -8,68 +9,74 @@ ghost use Rattle.property.specs.Judgement.{Judges};
 use crate::ceiling::Ceiling;
 use crate::limits::{MOST_BYTES, MOST_HOPS, MOST_LOWER, MOST_OPEN};
 use crate::property::Property;
-use formula_reader::read_state;
-use property_parts::PartTable;
-use property_text::{PropertyFault, past_spaces, read_at_most, read_byte, read_number, refuse};
-use refusal::Refusal;
+use formula_reader::FormulaReader;
+use property_text::{PropertyFault, Tokens};
+use refusal::{Refusal, demand};
 
 /// Reads the number under the line of a ceiling, which is not 0, within its limit, and not less than the one above.
-fn read_lower(text: &[u8], at: usize, upper: u32) -> Result<(u32, usize), Refusal<PropertyFault>>
-    ensures bound { IfOk result (λ v. (1 ≤ v.0) × (v.0 ≤ most_lower) × (upper ≤ v.0)) }
-    ensures value { result ≡ lower-number text.now upper at }
+fn read_lower(tokens: &mut Tokens, upper: u32) -> Result<u32, Refusal<PropertyFault>>
+    ensures bound { IfOk result (λ lower. (1 ≤ lower) × (lower ≤ most_lower) × (upper ≤ lower)) }
+    ensures value { up_to tokens.new.at result ≡ lower-number tokens.old.text.now upper tokens.old.at }
+    ensures text { tokens.new.text ≡ tokens.old.text }
 {
-    let (lower, next) = read_number(text, at)?;
-    if lower < 1 || lower > MOST_LOWER || lower < upper {
-        return Err(refuse(PropertyFault::BadCeiling, at));
-    }
-    Ok((lower, next))
+    let place = tokens.place();
+    let lower = tokens.read_number()?;
+    demand(
+        1 <= lower && lower <= MOST_LOWER && upper <= lower,
+        PropertyFault::BadCeiling,
+        place,
+    )?;
+    Ok(lower)
 }
 
 /// Reads a hop bound.
-fn read_hops(text: &[u8], at: usize) -> Result<(u32, usize), Refusal<PropertyFault>>
-    ensures bound { IfOk result (λ v. v.0 ≤ most_hops) }
-    ensures value { result ≡ hops-number text.now at }
+fn read_hops(tokens: &mut Tokens) -> Result<u32, Refusal<PropertyFault>>
+    ensures bound { IfOk result (λ hops. hops ≤ most_hops) }
+    ensures value { up_to tokens.new.at result ≡ hops-number tokens.old.text.now tokens.old.at }
+    ensures text { tokens.new.text ≡ tokens.old.text }
 {
-    let (hops, next) = read_number(text, at)?;
-    if hops > MOST_HOPS {
-        return Err(refuse(PropertyFault::TooManyHops, at));
-    }
-    Ok((hops, next))
+    let place = tokens.place();
+    let hops = tokens.read_number()?;
+    demand(hops <= MOST_HOPS, PropertyFault::TooManyHops, place)?;
+    Ok(hops)
 }
 
 /// Reads `P <= number / number [`.
-fn read_opening(text: &[u8], at: usize) -> Result<(Ceiling, usize), Refusal<PropertyFault>>
-    ensures bound { IfOk result (λ v. (1 ≤ v.0.lower) × (v.0.lower ≤ most_lower) × (v.0.upper ≤ v.0.lower)) }
-    ensures value { result ≡ opening text.now at }
+fn read_opening(tokens: &mut Tokens) -> Result<Ceiling, Refusal<PropertyFault>>
+    ensures bound { IfOk result (λ ceiling. (1 ≤ ceiling.lower) × (ceiling.lower ≤ most_lower) × (ceiling.upper ≤ ceiling.lower)) }
+    ensures value { up_to tokens.new.at result ≡ opening tokens.old.text.now tokens.old.at }
+    ensures text { tokens.new.text ≡ tokens.old.text }
 {
-    let at = read_byte(text, at, b'P')?;
-    let at = read_at_most(text, at)?;
-    let (upper, at) = read_number(text, at)?;
-    let at = read_byte(text, at, b'/')?;
-    let (lower, at) = read_lower(text, at, upper)?;
-    let at = read_byte(text, at, b'[')?;
-    Ok((Ceiling { upper, lower }, at))
+    tokens.read_byte(b'P')?;
+    tokens.read_at_most()?;
+    let upper = tokens.read_number()?;
+    tokens.read_byte(b'/')?;
+    let lower = read_lower(tokens, upper)?;
+    tokens.read_byte(b'[')?;
+    Ok(Ceiling { upper, lower })
 }
 
 /// Reads `U <= number`.
-fn read_until(text: &[u8], at: usize) -> Result<(u32, usize), Refusal<PropertyFault>>
-    ensures bound { IfOk result (λ v. v.0 ≤ most_hops) }
-    ensures value { result ≡ until text.now at }
+fn read_until(tokens: &mut Tokens) -> Result<u32, Refusal<PropertyFault>>
+    ensures bound { IfOk result (λ hops. hops ≤ most_hops) }
+    ensures value { up_to tokens.new.at result ≡ until tokens.old.text.now tokens.old.at }
+    ensures text { tokens.new.text ≡ tokens.old.text }
 {
-    let at = read_byte(text, at, b'U')?;
-    let at = read_at_most(text, at)?;
-    read_hops(text, at)
+    tokens.read_byte(b'U')?;
+    tokens.read_at_most()?;
+    read_hops(tokens)
 }
 
 /// Reads `]`, behind which the text ends.
-fn read_closing(text: &[u8], at: usize) -> Result<(), Refusal<PropertyFault>>
-    ensures { result ≡ closing text.now at }
+fn read_closing(tokens: &mut Tokens) -> Result<(), Refusal<PropertyFault>>
+    ensures { result ≡ closing tokens.old.text.now tokens.old.at }
 {
-    let end = read_byte(text, at, b']')?;
-    if end != text.len() {
-        return Err(refuse(PropertyFault::TokenMissing, end));
-    }
-    Ok(())
+    tokens.read_byte(b']')?;
+    demand(
+        tokens.is_at_end(),
+        PropertyFault::TokenMissing,
+        tokens.place(),
+    )
 }
 
 impl Property {
@@ -78,21 +85,23 @@ impl Property {
         ensures value { MatchResult result (λ p. answer text.now ≡ Ok (meaning p)) (λ e. answer text.now ≡ Err e) }
         ensures judges { Judges text.now result }
     {
-        if text.len() > MOST_BYTES {
-            return Err(refuse(PropertyFault::TextTooLong, MOST_BYTES));
-        }
-        let (ceiling, at) = read_opening(text, past_spaces(text, 0))?;
-        let mut parts = PartTable::new();
-        let (ground, at) = read_state(text, at, &mut parts, MOST_OPEN)?;
-        let (hop_bound, at) = read_until(text, at)?;
-        let (goal, at) = read_state(text, at, &mut parts, MOST_OPEN)?;
-        read_closing(text, at)?;
+        demand(
+            text.len() <= MOST_BYTES,
+            PropertyFault::TextTooLong,
+            MOST_BYTES,
+        )?;
+        let mut reader = FormulaReader::new(text);
+        let ceiling = read_opening(&mut reader.tokens)?;
+        let ground_part = reader.read_state(MOST_OPEN)?;
+        let hop_bound = read_until(&mut reader.tokens)?;
+        let goal_part = reader.read_state(MOST_OPEN)?;
+        read_closing(&mut reader.tokens)?;
         Ok(Property {
             ceiling,
             hop_bound,
-            ground_part: ground,
-            goal_part: goal,
-            parts,
+            ground_part,
+            goal_part,
+            parts: reader.parts,
         })
     }
 }

@@ -1,5 +1,5 @@
 -- Each part of a table names only parts before it.
-use Rattle.std.proofs.Common.{◌≡◌, ℕ, ◌+◌, ◌<◌, true, ◌&&◌, ltb, ◌≢◌, List, length, get_or, take, set, sym, ap, ◌∙◌, arith, get_or-set_other, get_or-take, get_or-set_same, below_more}
+use Rattle.std.proofs.Common.{◌≡◌, ℕ, ◌+◌, ◌<◌, true, ◌&&◌, ltb, ◌≢◌, List, length, [], ◌∷◌, ◌++◌, take, set, add-one, take-suc-set, ap, ◌∙◌, arith, get_or-set_other, get_or-take, get_or-set_same, below_more}
 use Rattle.std.proofs.lemmas.Bool.{ltb-true, and_parts}
 use Rattle.property_parts.specs.Parts.{names_earlier, Falls}
 use Rattle.property_parts.specs.declared.parts.Part.{Part}
@@ -12,15 +12,12 @@ fills ps n p room old new =
     (λ k h. let ne : k ≢ n = omega arith in rw get_or-set_other (old k h))
     (rw (get_or-set_same ps n p (Letter 0) room) new)
 
+pub fills_held : (ps : List Part) (n : ℕ) (p : Part) → n < length ps → take (n + 1) (set ps n p) ≡ take n ps ++ (p ∷ [])
+fills_held ps n p room = rw add-one (take-suc-set ps n p room)
+
 -- the parts that a table holds are the first of its slots
-pub held_at : (ps : List Part) (m n : ℕ) → n < m → get_or (take m ps) n (Letter 0) ≡ get_or ps n (Letter 0)
-held_at ps m n h = get_or-take m ps n (Letter 0) h
-
 pub held_falls : (ps : List Part) (m : ℕ) → Falls ps m → Falls (take m ps) m
-held_falls ps m falls k h = ap (λ p. names_earlier p k) (held_at ps m k h) ∙ falls k h
-
-pub names_at : (ps : List Part) (m n : ℕ) (p : Part) → Falls ps m → n < m → get_or ps n (Letter 0) ≡ p → names_earlier p n ≡ true
-names_at ps m n p falls h e = ap (λ q. names_earlier q n) (sym e) ∙ falls n h
+held_falls ps m falls k h = ap (λ p. names_earlier p k) (get_or-take m ps k (Letter 0) h) ∙ falls k h
 
 pub both_earlier : (a b n : ℕ) → (ltb a n && ltb b n) ≡ true → (a < n) × (b < n)
 both_earlier a b n h = let q = and_parts (ltb a n) (ltb b n) h in (ltb-true a n q.0, ltb-true b n q.1)

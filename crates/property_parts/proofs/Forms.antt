@@ -1,13 +1,14 @@
 -- What is written of a formula's own part is what is written of the formula.
-use Rattle.std.proofs.Common.{◌≡◌, ℕ, ◌<◌, Bool, List, ◌∷◌, get_or, sym, refl, ap, ◌∙◌, ap₂}
+use Rattle.std.proofs.Common.{◌≡◌, ℕ, true, false, List, [], ◌∷◌, ◌++◌, get_or, sym, refl, ap, ◌∙◌, ap₂}
 use Rattle.std.proofs.lemmas.Bool.{ltb-true}
 use Rattle.property_parts.specs.Form.{enclosed, part_needs, and_form, or_form, plain, form_rule, form}
-use Rattle.property_parts.specs.Parts.{Falls}
+use Rattle.property_parts.specs.Table.{held}
+use Rattle.property_parts.specs.declared.form.PartForm.{PartForm}
 use Rattle.property_parts.specs.declared.kinds.Kind.{Kind}
 use Rattle.property_parts.specs.declared.kinds.Kind.TheVariants.{State, Factor}
 use Rattle.property_parts.specs.declared.parts.Part.{Part}
 use Rattle.property_parts.specs.declared.parts.Part.TheVariants.{Letter, Not, True, False, And, Or}
-use Rattle.property_parts.proofs.Filled.{both_earlier}
+use Rattle.property_parts.proofs.Filled.{both_earlier, held_falls}
 use Rattle.property_parts.proofs.Made.{Local, made_at}
 use Rattle.property_parts.proofs.Values.{Follows}
 
@@ -38,9 +39,17 @@ rule_enclosed f False kind = refl
 rule_enclosed f (And a b) kind = refl
 rule_enclosed f (Or a b) kind = refl
 
-module _ (ps : List Part) (m : ℕ) (falls : Falls ps m) (n : ℕ) (h : n < m) (p : Part) (at : p ≡ get_or ps n (Letter 0)) where
-  pub form_at : (kind : Kind) → form_rule (form ps) p kind ≡ form ps n kind
-  form_at kind = ap (λ f. f kind) (sym (made_at _ form_rule form_local ps m falls n p h (sym at)))
+-- of a part where it stands as a kind
+module _ (v : PartForm) {p : Part} (at : p ≡ get_or (held v.parts.now) v.number (Letter 0)) where
+  abbrev made : ℕ → Kind → List ℕ
+  made = form (held v.parts.now)
 
-  pub form_enclosed : (kind : Kind) (needed : Bool) → needed ≡ part_needs p kind → enclosed needed (form ps n State) ≡ form ps n kind
-  form_enclosed kind needed e = ap₂ enclosed e (sym (form_at State)) ∙ (rule_enclosed (form ps) p kind ∙ form_at kind)
+  form_at : (kind : Kind) → form_rule made p kind ≡ made v.number kind
+  form_at kind = ap (λ f. f kind) (sym (made_at _ form_rule form_local _ _ (held_falls _ _ v.parts.now.falls) v.number p v.filled (sym at)))
+
+  pub form_enclosed : part_needs p v.kind ≡ true → 40 ∷ (made v.number State ++ (41 ∷ [])) ≡ made v.number v.kind
+  form_enclosed e = ap₂ enclosed (sym e) (sym (form_at State)) ∙ (rule_enclosed made p v.kind ∙ form_at v.kind)
+
+  pub form_bare : {q : Part} → p ≡ q → false ≡ part_needs p v.kind → form_rule made q State ≡ made v.number v.kind
+  form_bare {q} e bare = ap (λ r. form_rule made r State) (sym e)
+      ∙ (ap (λ b. enclosed b (form_rule made p State)) bare ∙ (rule_enclosed made p v.kind ∙ form_at v.kind))

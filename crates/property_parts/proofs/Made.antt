@@ -1,9 +1,8 @@
 -- What a rule makes of a part is what it makes from what it makes of the part's operands.
-use Rattle.std.proofs.Common.{◌≡◌, ℕ, zero, suc, ◌<◌, true, List, get_or, take, ap, ◌∙◌, arith}
+use Rattle.std.proofs.Common.{◌≡◌, ℕ, zero, suc, ◌<◌, true, List, get_or, ap, ◌∙◌, arith}
 use Rattle.property_parts.specs.Parts.{names_earlier, Falls, Rule, made_within, made_of}
 use Rattle.property_parts.specs.declared.parts.Part.{Part}
 use Rattle.property_parts.specs.declared.parts.Part.TheVariants.{Letter}
-use Rattle.property_parts.proofs.Filled.{held_at, held_falls}
 
 -- a rule looks at nothing but the part's operands
 abbrev pub Local : {A : Type 0} → Rule A → Type 0
@@ -24,8 +23,3 @@ module _ {A : Type 0} (nothing : A) (rule : Rule A) (local : Local rule) (ps : L
       local (get_or ps n (Letter 0)) n (made_within nothing rule n ps) (made_of nothing rule ps) (falls n h)
       (λ k l. deep n (suc k) k l (omega arith) (omega arith))
       ∙ ap (λ q. rule (made_of nothing rule ps) q) e
-
--- the same of the parts that a table holds
-pub made_held : {A : Type 0} (nothing : A) (rule : Rule A) → Local rule → (ps : List Part) (m n : ℕ) (p : Part) → Falls ps m → n < m → get_or ps n (Letter 0) ≡ p
-    → made_of nothing rule (take m ps) n ≡ rule (made_of nothing rule (take m ps)) p
-made_held nothing rule local ps m n p falls h e = made_at nothing rule local (take m ps) m (held_falls ps m falls) n p h (held_at ps m n h ∙ e)

@@ -1,12 +1,14 @@
 -- What a rule makes of a formula's own part is what is made of the formula.
-use Rattle.std.proofs.Common.{◌≡◌, ℕ, ◌+◌, ◌<◌, ◌≤◌, not, ◌&&◌, ◌||◌, List, [], ◌∷◌, ◌++◌, length, get_or, sym, refl, ap, ◌∙◌, ap₂, append_assoc, append-nil, add-zero, zero-add, arith, length-append}
+use Rattle.std.proofs.Common.{◌≡◌, ℕ, ◌+◌, ◌<◌, ◌≤◌, false, not, ◌&&◌, ◌||◌, List, [], ◌∷◌, ◌++◌, length, get_or, sym, refl, ap, ◌∙◌, ap₂, append_assoc, append-nil, add-zero, zero-add, arith, length-append}
 use lib.Seq.{get_or_at}
 use Rattle.std.proofs.lemmas.Bool.{ltb-true}
-use Rattle.property_parts.specs.Parts.{Falls, Rule, made_of, truth_rule}
+use Rattle.property_parts.specs.Parts.{Falls, Rule, made_of, truth_rule, truth}
 use Rattle.property_parts.specs.Formula.{Formula, letter, no_letter, top, bottom, and, or, holds_in, root, size, parts_of}
+use Rattle.property_parts.specs.Table.{held}
+use Rattle.property_parts.specs.declared.table.PartTable.{PartTable}
 use Rattle.property_parts.specs.declared.parts.Part.{Part}
 use Rattle.property_parts.specs.declared.parts.Part.TheVariants.{Letter, Not, True, False, And, Or}
-use Rattle.property_parts.proofs.Filled.{both_earlier}
+use Rattle.property_parts.proofs.Filled.{both_earlier, held_falls}
 use Rattle.property_parts.proofs.Made.{Local, made_at}
 
 length_joined : (n : ℕ) (a b : Formula) (p : Part) → length (parts_of n a) ≡ size a → length (parts_of (n + size a) b) ≡ size b
@@ -96,3 +98,7 @@ truth_follows w =
       on_and = λ t a b j k x y. ap₂ (λ x y. x && y) x y;
       on_or = λ t a b j k x y. ap₂ (λ x y. x || y) x y;
     }
+
+-- the truth of a part that a table holds
+pub truth_at : (t : PartTable) (w n : ℕ) (p : Part) → n < t.count → p ≡ get_or (held t) n (Letter 0) → truth (held t) w n ≡ truth_rule w (truth (held t) w) p
+truth_at t w n p h at = made_at false (truth_rule w) (truth_local w) (held t) t.count (held_falls _ _ t.falls) n p h (sym at)

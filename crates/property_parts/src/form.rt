@@ -1,7 +1,5 @@
 //! The written form of a part.
-ghost use Rattle.std.specs.Prelude.{◌≡◌, ◌<◌};
-ghost use Rattle.std.specs.Fmt.{WritesOnOk};
-ghost use Rattle.property_parts.specs.declared.kinds.Kind.TheVariants.{State};
+ghost use Rattle.std.specs.Prelude.{◌≡◌, ◌<◌, Some};
 ghost use Rattle.property_parts.specs.Form.{form, part_needs};
 ghost use Rattle.property_parts.specs.Table.{held};
 
@@ -10,61 +8,70 @@ use crate::parts::Part;
 use crate::table::PartTable;
 use std::fmt;
 
-/// Whether a part that stands as that kind is in parentheses: `a&b` is no factor, and `a|b` is no term.
-fn is_enclosed(part: Part, kind: Kind) -> bool
-    ensures { result ≡ part_needs part kind }
-{
-    match part {
-        Part::And(_, _) => matches!(kind, Kind::Factor),
-        Part::Or(_, _) => !matches!(kind, Kind::State),
-        _ => false,
+impl Part {
+    /// Whether the part, where it stands as that kind, is in parentheses: `a&b` is no factor, and `a|b` is no term.
+    fn is_enclosed(self, kind: Kind) -> bool
+        ensures { result ≡ part_needs self kind }
+    {
+        matches!(
+            (self, kind),
+            (Part::And(_, _), Kind::Factor) | (Part::Or(_, _), Kind::Term | Kind::Factor)
+        )
     }
 }
 
+/// A part of a table where it stands as that kind.
+#[derive(Clone, Copy)]
+pub struct PartForm<'a> {
+    parts: &'a PartTable,
+    number: usize,
+    kind: Kind,
+    ghost filled: { number < parts.now.count },
+}
+
 impl PartTable {
-    /// Writes the part of that number where it stands as that kind.
-    #[cycle(write_part_write_state)]
-    pub fn write_part<W: fmt::Write>(
-        &self,
-        number: usize,
-        kind: Kind,
-        f: &mut fmt::Formatter<W>,
-    ) -> fmt::Result
+    /// The written form of the part of that number, where it stands as that kind.
+    pub fn form(&self, number: usize, kind: Kind) -> PartForm<'_>
         requires { number < self.now.count }
-        ensures { WritesOnOk W.write_str_gives f.old result (form (held self.now) number kind) f.new }
+        ensures text { form (held result.parts.now) result.number result.kind ≡ form (held self.now) number kind }
+        ensures number { result.number ≡ number }
+        ensures kind { result.kind ≡ kind }
     {
-        if is_enclosed(self.part(number), kind) {
-            f.write_str("(")?;
-            self.write_state(number, f)?;
-            f.write_str(")")
-        } else {
-            self.write_state(number, f)
+        PartForm {
+            parts: self,
+            number,
+            kind,
         }
     }
+}
 
-    /// Writes the part of that number as a state formula, which has no parentheses around it.
-    #[cycle(write_part_write_state)]
-    fn write_state<W: fmt::Write>(&self, number: usize, f: &mut fmt::Formatter<W>) -> fmt::Result
-        requires { number < self.now.count }
-        ensures { WritesOnOk W.write_str_gives f.old result (form (held self.now) number State) f.new }
-    {
-        match self.part(number) {
+impl fmt::Display for PartForm<'_> {
+    ghost output = { λ p. Some (form (held p.parts.now) p.number p.kind) };
+
+    fn fmt<W: fmt::Write>(&self, f: &mut fmt::Formatter<W>) -> fmt::Result {
+        let part = self.parts.part(self.number);
+        if part.is_enclosed(self.kind) {
+            f.write_str("(")?;
+            self.parts.form(self.number, Kind::State).fmt(f)?;
+            return f.write_str(")");
+        }
+        match part {
             Part::Letter(letter) => f.write_char((b'a' + letter) as char),
             Part::Not(a) => {
                 f.write_str("!")?;
-                self.write_part(a as usize, Kind::Factor, f)
+                self.parts.form(a as usize, Kind::Factor).fmt(f)
             }
             Part::True => f.write_str("T"),
             Part::False => f.write_str("F"),
             Part::And(a, b) => {
-                self.write_part(a as usize, Kind::Term, f)?;
+                self.parts.form(a as usize, Kind::Term).fmt(f)?;
                 f.write_str("&")?;
-                self.write_part(b as usize, Kind::Factor, f)
+                self.parts.form(b as usize, Kind::Factor).fmt(f)
             }
             Part::Or(a, b) => {
-                self.write_part(a as usize, Kind::State, f)?;
+                self.parts.form(a as usize, Kind::State).fmt(f)?;
                 f.write_str("|")?;
-                self.write_part(b as usize, Kind::Term, f)
+                self.parts.form(b as usize, Kind::Term).fmt(f)
             }
         }
     }

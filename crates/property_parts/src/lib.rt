@@ -1,7 +1,6 @@
 //! The parts of a property in their table, their truth in a set of propositions, and their written form.
 #![tactic(auto)]
 
-mod filling;
 mod form;
 mod kinds;
 mod parts;

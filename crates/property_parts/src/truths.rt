@@ -8,12 +8,12 @@ use crate::table::PartTable;
 
 impl PartTable {
     /// Whether the part of that number is true where the propositions are these; a is bit 0.
+    #[tactic(auto, using(crate::proofs::Values::truth_at))]
     pub fn holds(&self, number: usize, propositions: u16) -> bool
         requires { number < self.now.count }
         ensures { result ≡ truth (held self.now) propositions number }
     {
-        let part = self.parts[number];
-        match part {
+        match self.part(number) {
             Part::Letter(letter) => (propositions >> letter) % 2 == 1,
             Part::Not(a) => !self.holds(a as usize, propositions),
             Part::True => true,

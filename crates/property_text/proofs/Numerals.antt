@@ -1,6 +1,9 @@
 -- The digits that a text has from a place on, and the number that they write.
-use Rattle.std.proofs.Common.{◌≡◌, ℕ, ◌+◌, ◌-◌, ◌*◌, ◌^◌, ◌<◌, ◌≤◌, true, false, ◌&&◌, ◌||◌, eqb, ltb, leb, ◌⊎◌, List, [], ◌∷◌, length, get_or, drop, Ok, refl, ap, ◌∙◌, ap₂, inl, inr, pow-suc, add-one, arith, drop_of_length-le, drop-cons}
-use Rattle.std.proofs.lemmas.Bool.{lt-ltb, le-ltb, le-leb, lt-leb, eq-eqb, ne_eqb, cases_lt, cases_eq, or_left, or_right, and_from, and_left, and_right}
+use Rattle.std.proofs.Common.{◌≡◌, ℕ, Bool, suc, ◌+◌, ◌-◌, ◌*◌, ◌^◌, ◌<◌, ◌≤◌, true, false, ◌&&◌, ◌||◌, eqb, ltb, leb, ◌⊎◌, List, [], ◌∷◌, length, get_or, take, drop, Ok, sym, refl, ap, ◌∙◌, ap₂, inl, inr, pow-suc, add-one, arith, drop_of_length-le, drop-cons}
+use Rattle.std.proofs.lemmas.List.Sums.{prefix_len_passes}
+use Rattle.std.proofs.lemmas.Bool.{leb-true, and_parts, lt-ltb, le-ltb, le-leb, lt-leb, eq-eqb, ne_eqb, cases_lt, cases_eq, or_left, or_right, and_from, and_left, and_right}
+use Rattle.std.specs.Char.{is_ascii_digit}
+use Rattle.std.specs.List.{prefix_len}
 use Rattle.property_text.specs.Faults.{refused}
 use Rattle.property_text.specs.Tokens.{digits, worth, past, number}
 use Rattle.property_text.specs.declared.fault.PropertyFault.TheVariants.{TokenMissing, BadNumber}
@@ -16,6 +19,30 @@ digit_none s k w = elim (cases_lt k (length s)) [ inl h ↦ rw (drop-cons s k 0 
   where
     not_digit : (c : ℕ) → (c < 48) ⊎ (57 < c) → (leb 48 c && leb c 57) ≡ false
     not_digit c w = elim w [ inl h ↦ and_left _ _ (lt-leb 48 c h) | inr h ↦ and_right (leb 48 c) _ (lt-leb c 57 h) ]
+
+-- the digits in front are those that are counted, and no others
+pub record Cut (s : List ℕ) : Type 0 where
+  pub count : length (digits s) ≡ prefix_len is_ascii_digit s
+  pub same : digits (take (prefix_len is_ascii_digit s) s) ≡ digits s
+  pub all : prefix_len is_ascii_digit (take (prefix_len is_ascii_digit s) s) ≡ length (take (prefix_len is_ascii_digit s) s)
+
+cut_more : (c : ℕ) (cs : List ℕ) (b : Bool) → is_ascii_digit c ≡ b → Cut cs → Cut (c ∷ cs)
+unfolding digits
+cut_more c cs true e h =
+    let q : 1 + prefix_len is_ascii_digit cs ≡ suc (prefix_len is_ascii_digit cs) = omega arith in
+    record { count = rw (e, q) (ap suc h.count); same = rw (e, q) (rw e (ap (λ ds. (c - 48) ∷ ds) h.same)); all = rw (e, q) (rw e (omega (arith, h.all))) }
+cut_more c cs false e h = record { count = rw e refl; same = rw e refl; all = rw e refl }
+
+pub cut : (s : List ℕ) → Cut s
+unfolding digits
+cut [] = record { count = refl; same = refl; all = refl }
+cut (c ∷ cs) = cut_more c cs (is_ascii_digit c) refl (cut cs)
+
+digit_range : (c : ℕ) → is_ascii_digit c ≡ true → (48 ≤ c) × (c ≤ 57)
+digit_range c e = let p = and_parts (leb 48 c) (leb c 57) e in (leb-true 48 c p.0, leb-true c 57 p.1)
+
+pub in_digits : (s : List ℕ) (k : ℕ) → prefix_len is_ascii_digit s ≡ length s → k < length s → (48 ≤ get_or s k 0) × (get_or s k 0 ≤ 57)
+in_digits s k all h = digit_range (get_or s k 0) (prefix_len_passes is_ascii_digit s k 0 (omega arith))
 
 pub number_none : (s : List ℕ) (i : ℕ) → digits (drop i s) ≡ [] → number s i ≡ refused TokenMissing i
 number_none s i e = rw e
@@ -41,27 +68,43 @@ pub worth_none : (v : ℕ) → worth v [] ≡ v
 unfolding worth
 worth_none v = refl
 
--- a turn of the loop: s from j on has the digits of the rest
+pub worth_end : (v k : ℕ) (s : List ℕ) → length s ≤ k → worth v (digits (drop k s)) ≡ v
+unfolding digits worth
+worth_end v k s h = rw (drop_of_length-le s h) refl
+
 pub more_bound : (v d n : ℕ) → v < 10 ^ n → d < 10 → v * 10 + d < 10 ^ (n + 1)
 more_bound v d n h k = rw (add-one, pow-suc 10 n) (omega arith)
 
-pub turn_length : (s : List ℕ) (i k d : ℕ) → i < k → digits (drop k s) ≡ d ∷ digits (drop (k + 1) s)
-    → length (digits (drop (i + 1) s)) ≡ (k - (i + 1)) + length (digits (drop k s))
-    → length (digits (drop (i + 1) s)) ≡ ((k + 1) - (i + 1)) + length (digits (drop (k + 1) s))
-turn_length s i k d h e l = let f = ap (λ x. length x) e in omega (arith, f)
+-- the number is read from the digits that stand there
+module _ (s w : List ℕ) (i : ℕ) (same : digits w ≡ digits (drop i s)) (all : prefix_len is_ascii_digit w ≡ length w) where
+  count : length (digits (drop i s)) ≡ length w
+  count = ap length (sym same) ∙ ((cut w).count ∙ all)
 
-pub turn_worth : (s : List ℕ) (i k d v w : ℕ) → digits (drop k s) ≡ d ∷ digits (drop (k + 1) s)
-    → worth w (digits (drop (i + 1) s)) ≡ worth v (digits (drop k s))
-    → worth w (digits (drop (i + 1) s)) ≡ worth (v * 10 + d) (digits (drop (k + 1) s))
-turn_worth s i k d v w e h = h ∙ (ap (λ x. worth v x) e ∙ worth_more v d (digits (drop (k + 1) s)))
+  first : 0 < length w → digits (drop i s) ≡ (get_or w 0 0 - 48) ∷ digits (drop 1 w)
+  first h = let r = in_digits w 0 all h in sym same ∙ digit_some w 0 h r.0 r.1
 
-pub number_end : (s : List ℕ) (i k d v : ℕ) → i < k → k ≤ i + 5 → digits (drop i s) ≡ d ∷ digits (drop (i + 1) s) → digits (drop k s) ≡ []
-    → length (digits (drop (i + 1) s)) ≡ (k - (i + 1)) + length (digits (drop k s))
-    → worth d (digits (drop (i + 1) s)) ≡ worth v (digits (drop k s))
-    → (d ≡ 0 → k ≡ i + 1) → number s i ≡ Ok (v, past s k)
-number_end s i k d v h u e z l w f =
-    let n : length (digits (drop (i + 1) s)) ≡ k - (i + 1) = let x = ap (λ x. length x) z in omega (arith, x) in
-    let p : i + (length (digits (drop (i + 1) s)) + 1) ≡ k = omega arith in
-    let q : worth d (digits (drop (i + 1) s)) ≡ v = w ∙ (ap (λ x. worth v x) z ∙ worth_none v) in
-    number_ok s i d (digits (drop (i + 1) s)) e (omega arith) (λ q. let y = f q in omega arith)
-    ∙ ap₂ (λ x y. Ok (x, past s y)) q p
+  rest : 0 < length w → length (digits (drop 1 w)) + 1 ≡ length w
+  rest h = let x = ap length (first h) in omega (arith, count)
+
+  pub written_none : length w ≡ 0 → number s i ≡ refused TokenMissing i
+  written_none h = number_none s i (empty (digits (drop i s)) (count ∙ h))
+    where
+      empty : (ds : List ℕ) → length ds ≡ 0 → ds ≡ []
+      empty [] e = refl
+      empty (d ∷ ds) e = absurd (omega arith)
+
+  pub written_long : 5 < length w → number s i ≡ refused BadNumber i
+  written_long h = let x = rest (omega arith) in number_bad s i (get_or w 0 0 - 48) (digits (drop 1 w)) (first (omega arith)) (inr (omega arith))
+
+  pub written_needless : 1 < length w → get_or w 0 0 ≡ 48 → number s i ≡ refused BadNumber i
+  written_needless h z = let x = rest (omega arith) in number_bad s i (get_or w 0 0 - 48) (digits (drop 1 w)) (first (omega arith)) (inl (omega arith, omega arith))
+
+  pub written_well : 0 < length w → length w ≤ 5 → (get_or w 0 0 ≡ 48 → length w ≡ 1) → number s i ≡ Ok (worth 0 (digits w), past s (i + length w))
+  written_well h f z =
+      let x = rest h in
+      let r = in_digits w 0 all h in
+      let zero : 0 * 10 + (get_or w 0 0 - 48) ≡ get_or w 0 0 - 48 = omega arith in
+      let v : worth (get_or w 0 0 - 48) (digits (drop 1 w)) ≡ worth 0 (digits w) =
+      sym (ap (λ ds. worth 0 ds) (digit_some w 0 h r.0 r.1) ∙ (worth_more 0 (get_or w 0 0 - 48) (digits (drop 1 w)) ∙ ap (λ v. worth v (digits (drop 1 w))) zero)) in
+      number_ok s i (get_or w 0 0 - 48) (digits (drop 1 w)) (first h) (omega arith) (λ e. let y : get_or w 0 0 ≡ 48 = omega arith in let n = z y in omega arith)
+      ∙ ap₂ (λ v n. Ok (v, past s (i + n))) v x

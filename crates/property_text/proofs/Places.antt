@@ -2,18 +2,18 @@
 use Rattle.std.proofs.Common.{◌≡◌, ℕ, zero, suc, ◌+◌, ◌<◌, ◌≤◌, false, eqb, List, length, get_or, sym, ap, ◌∙◌, inl, inr, add-one, arith, drop_of_length-le, drop-cons}
 use Rattle.std.proofs.lemmas.List.{get_or_past}
 use Rattle.std.proofs.lemmas.Bool.{ne_eqb, cases_lt, cases_eq}
-use Rattle.property_text.specs.Tokens.{blanks, past}
+use Rattle.property_text.specs.Tokens.{past}
 use Rattle.property_text.specs.Spelling.{Gap}
 
 pub inside : (s : List ℕ) (k b : ℕ) → get_or s k 0 ≡ b → 0 < b → k < length s
 inside s k b e h = elim (cases_lt k (length s)) [ inl l ↦ l | inr l ↦ absurd (omega (arith, get_or_past s k 0 l, e)) ]
 
 pub past_space : (s : List ℕ) (k : ℕ) → get_or s k 0 ≡ 32 → past s k ≡ past s (k + 1)
-unfolding past blanks
+unfolding past
 past_space s k e = let h = inside s k 32 e (omega arith) in rw (drop-cons s k 0 h, e, add-one) (omega arith)
 
 pub past_other : (s : List ℕ) (k : ℕ) → (get_or s k 0 ≡ 32 → ⊥) → past s k ≡ k
-unfolding past blanks
+unfolding past
 past_other s k ne = elim (cases_lt k (length s)) [
   | inl h ↦ let f : eqb (get_or s k 0) 32 ≡ false = ne_eqb _ _ ne in rw (drop-cons s k 0 h, f) (omega arith)
   | inr h ↦ rw (drop_of_length-le s h) (omega arith)

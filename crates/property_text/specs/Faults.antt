@@ -25,3 +25,11 @@ infixl 20 ◌>>=◌
 abbrev pub ◌>>=◌ : {A B : Type 0} → Read A → (A → Read B) → Read B
 ◌>>=◌ (Ok a) go_on = go_on a
 ◌>>=◌ (Err r) go_on = Err r
+
+-- what was read, and the place up to which it was
+abbrev pub up_to : {A : Type 0} → ℕ → Read A → Read (A × ℕ)
+up_to place r = r >>= (λ a. Ok (a, place))
+
+-- a token has no value but its end
+abbrev pub ended : ℕ → Read (Unit {0}) → Read ℕ
+ended place r = r >>= (λ _. Ok place)

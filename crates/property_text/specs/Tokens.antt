@@ -1,12 +1,8 @@
 -- Tokens as they are read at a place: the place where the next one should begin, or the refusal.
-use Rattle.std.specs.Prelude.{ℕ, suc, ◌+◌, ◌-◌, ◌*◌, cond, ◌&&◌, ◌||◌, List, [], ◌∷◌, length, drop, Ok, ◌==◌, nat_le, nat_lt, slice_index}
+use Rattle.std.specs.Prelude.{ℕ, ◌+◌, ◌-◌, ◌*◌, cond, ◌&&◌, ◌||◌, List, [], ◌∷◌, length, drop, Ok, ◌==◌, nat_le, nat_lt, slice_index}
+use Rattle.std.specs.List.{prefix_len}
 use Rattle.property_text.specs.Faults.{Read, refused}
 use Rattle.property_text.specs.declared.fault.PropertyFault.TheVariants.{TokenMissing, BadNumber}
-
--- the spaces that a text begins with
-unfoldable pub blanks : List ℕ → ℕ
-blanks [] = 0
-blanks (c ∷ cs) = cond (c == 32) (suc (blanks cs)) 0
 
 -- the digits that a text begins with
 unfoldable pub digits : List ℕ → List ℕ
@@ -21,7 +17,7 @@ worth v (d ∷ ds) = worth (v * 10 + d) ds
 module _ (s : List ℕ) where
   -- the first place from i on that has no space
   unfoldable pub past : ℕ → ℕ
-  past i = i + blanks (drop i s)
+  past i = i + prefix_len (λ c. c == 32) (drop i s)
 
   abbrev pub byte : ℕ → ℕ → Read ℕ
   byte b i = cond (slice_index s i == b) (Ok (past (i + 1))) (refused TokenMissing i)

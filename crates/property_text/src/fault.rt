@@ -1,8 +1,7 @@
 //! What can be wrong with the text of a property.
-ghost use Rattle.std.specs.Prelude.{◌≡◌};
 ghost use Rattle.property_text.specs.Faults.{number_of};
 
-use refusal::{Fault, Refusal};
+use refusal::Fault;
 use thiserror::Error;
 
 /// In its words the mark is the place of the refusal.
@@ -30,11 +29,4 @@ impl Fault for PropertyFault {
     fn number(self) -> u32 {
         self as u32
     }
-}
-
-/// The refusal of a text for a fault at a place.
-pub fn refuse(fault: PropertyFault, place: usize) -> Refusal<PropertyFault>
-    ensures { result ≡ record { fault = fault; place = place } }
-{
-    Refusal { fault, place }
 }

@@ -1,51 +1,134 @@
-//! Single tokens of a text. A token is read at the place where it should begin; the answer has the place where the next one should.
-ghost use Rattle.std.specs.Prelude.{◌≡◌, ◌<◌, ◌≤◌, length, IfOk, slice_index};
-ghost use Rattle.property_text.specs.Tokens.{past, byte, at_most};
+//! The tokens of a text, one by one from its front.
+ghost use Rattle.std.specs.Prelude.{◌≡◌, ◌+◌, ◌<◌, ◌≤◌, ◌==◌, length, drop, cond, nat_eq, Ok, IfOk, slice_index};
+ghost use Rattle.std.specs.List.{starts_with};
+ghost use Rattle.property_text.specs.Faults.{ended, refused, up_to};
+ghost use Rattle.property_text.specs.Tokens.{past, byte as byte-token, at_most, number};
 
-use crate::fault::{PropertyFault, refuse};
-use refusal::Refusal;
+use crate::bytes::{leading_digits, number_written, past_spaces};
+use crate::fault::PropertyFault;
+use refusal::{Refusal, demand};
 
-/// The byte at that place; 0 past the end.
-pub fn byte_at(text: &[u8], place: usize) -> u8
-    ensures value { result ≡ slice_index text.now place }
-    ensures inside { 0 < result → place < length text.now }
-{
-    if place < text.len() { text[place] } else { 0 }
+/// What is left of a text.
+#[derive(Drop)]
+pub struct Tokens<'a> {
+    text: &'a [u8],
+    at: usize,
+    ghost within: { at ≤ length text.now },
 }
 
-/// The first place from there on that has no space.
-pub fn past_spaces(text: &[u8], from: usize) -> usize
-    ensures value { result ≡ past text.now from }
-    ensures later { from ≤ result }
-{
-    let mut place = from;
-    while byte_at(text, place) == b' ' {
-        place += 1;
+impl<'a> Tokens<'a> {
+    /// From the first token of the text on.
+    pub fn new(text: &'a [u8]) -> Tokens<'a>
+        ensures text { result.text.now ≡ text.now }
+        ensures at { result.at ≡ past text.now 0 }
+    {
+        Tokens {
+            text,
+            at: past_spaces(text, 0),
+        }
     }
-    place
-}
 
-/// Reads a token of one byte.
-pub fn read_byte(text: &[u8], at: usize, token: u8) -> Result<usize, Refusal<PropertyFault>>
-    requires { 0 < token }
-    ensures value { result ≡ byte text.now token at }
-    ensures later { IfOk result (λ next. at < next) }
-{
-    if byte_at(text, at) != token {
-        return Err(refuse(PropertyFault::TokenMissing, at));
+    /// Where the next token begins, or should.
+    pub fn place(&self) -> usize
+        ensures { result ≡ self.now.at }
+    {
+        self.at
     }
-    Ok(past_spaces(text, at + 1))
-}
 
-/// Reads `<=`.
-pub fn read_at_most(text: &[u8], at: usize) -> Result<usize, Refusal<PropertyFault>>
-    ensures { result ≡ at_most text.now at }
-{
-    if byte_at(text, at) != b'<' {
-        return Err(refuse(PropertyFault::TokenMissing, at));
+    /// The byte with which the next token begins; 0 at the end.
+    pub fn byte(&self) -> u8
+        ensures value { result ≡ slice_index self.now.text.now self.now.at }
+        ensures inside { 0 < result → self.now.at < length self.now.text.now }
+    {
+        if self.is_at_end() {
+            0
+        } else {
+            self.text[self.at]
+        }
     }
-    if byte_at(text, at + 1) != b'=' {
-        return Err(refuse(PropertyFault::TokenMissing, at));
+
+    pub fn is_at_end(&self) -> bool
+        ensures { result ≡ (self.now.at == length self.now.text.now) }
+    {
+        self.at == self.text.len()
     }
-    Ok(past_spaces(text, at + 2))
+
+    /// What is wrong with the next token.
+    pub fn refusal(&self, fault: PropertyFault) -> Refusal<PropertyFault>
+        ensures { result ≡ record { fault = fault; place = self.now.at } }
+    {
+        Refusal {
+            fault,
+            place: self.at,
+        }
+    }
+
+    /// Goes past the next byte, and past the spaces behind it.
+    pub fn advance(&mut self)
+        requires { self.old.at < length self.old.text.now }
+        ensures at { self.new.at ≡ past self.old.text.now (self.old.at + 1) }
+        ensures later { self.old.at < self.new.at }
+        ensures text { self.new.text ≡ self.old.text }
+    {
+        self.at = past_spaces(self.text, self.at + 1);
+    }
+
+    /// The text from the next token on.
+    fn rest(&self) -> &'a [u8]
+        ensures { result.now ≡ drop self.now.at self.now.text.now }
+    {
+        &self.text[self.at..]
+    }
+
+    /// Reads a token of these bytes.
+    fn read_token(&mut self, token: &[u8]) -> Result<(), Refusal<PropertyFault>>
+        ensures value { ended self.new.at result ≡ cond (starts_with nat_eq (drop self.old.at self.old.text.now) token.now)
+            (Ok (past self.old.text.now (self.old.at + length token.now)))
+            (refused PropertyFault.TokenMissing self.old.at) }
+        ensures later { IfOk result (λ _. self.old.at + length token.now ≤ self.new.at) }
+        ensures text { self.new.text ≡ self.old.text }
+    {
+        demand(
+            self.rest().starts_with(token),
+            PropertyFault::TokenMissing,
+            self.at,
+        )?;
+        self.at = past_spaces(self.text, self.at + token.len());
+        Ok(())
+    }
+
+    /// Reads a token of one byte.
+    pub fn read_byte(&mut self, token: u8) -> Result<(), Refusal<PropertyFault>>
+        requires { 0 < token }
+        ensures value { ended self.new.at result ≡ byte-token self.old.text.now token self.old.at }
+        ensures later { IfOk result (λ _. self.old.at < self.new.at) }
+        ensures text { self.new.text ≡ self.old.text }
+    {
+        self.read_token(&[token])
+    }
+
+    /// Reads `<=`.
+    pub fn read_at_most(&mut self) -> Result<(), Refusal<PropertyFault>>
+        ensures value { ended self.new.at result ≡ at_most self.old.text.now self.old.at }
+        ensures text { self.new.text ≡ self.old.text }
+    {
+        self.read_token(b"<=")
+    }
+
+    /// Reads a number of at most five digits, with no needless 0 in front.
+    pub fn read_number(&mut self) -> Result<u32, Refusal<PropertyFault>>
+        ensures value { up_to self.new.at result ≡ number self.old.text.now self.old.at }
+        ensures text { self.new.text ≡ self.old.text }
+    {
+        let written = leading_digits(self.rest());
+        demand(!written.is_empty(), PropertyFault::TokenMissing, self.at)?;
+        demand(written.len() <= 5, PropertyFault::BadNumber, self.at)?;
+        demand(
+            written.len() == 1 || written[0] != b'0',
+            PropertyFault::BadNumber,
+            self.at,
+        )?;
+        self.at = past_spaces(self.text, self.at + written.len());
+        Ok(number_written(written))
+    }
 }

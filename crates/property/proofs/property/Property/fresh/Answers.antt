@@ -3,5 +3,5 @@ use Rattle.property.proofs.property.Property.fresh.Goals as goal
 
 pub returns : goal.returns
 returns c =
-    fresh_filled c.fill.result c.fill-2.result c.new-parts.result c.fill.new.self c.fill-2.new.self c.unwrap_or-ground.result c.unwrap_or-goal.result
-    c.new-parts.ensures c.fill.ensures c.unwrap_or-ground.ensures c.fill-2.ensures c.unwrap_or-goal.ensures
+    fresh_filled c.new-parts.result c.fill.new.self c.fill-2.new.self c.unwrap-ground_part.result c.unwrap-goal_part.result c.new-parts.ensures
+    (rw c.unwrap-ground_part.ensures at c.fill.ensures) (rw c.unwrap-goal_part.ensures at c.fill-2.ensures)

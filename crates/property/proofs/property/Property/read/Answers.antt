@@ -1,71 +1,76 @@
-use Rattle.std.proofs.Common.{Err, sym, ap, ◌∙◌}
+use Rattle.std.proofs.Common.{◌≡◌, ◌≤◌, length, refl, rules, arith}
 use Rattle.std.proofs.lemmas.Result.{err_from_is_err_and}
-use Rattle.property.proofs.Whole.{read_long}
-use Rattle.property.proofs.Stages.{refuses, opening_bad, ground_bad, until_bad, goal_bad, closing_bad, all_read}
+use Rattle.property_parts.specs.Formula.{size}
+use Rattle.property.specs.Limits.{most_bytes}
+use Rattle.property.specs.Reading.{read}
+use Rattle.property.proofs.Stages.{refused, accepted, goal_refused}
 use Rattle.property.proofs.property.Property.read.Goals as goal
 
-pub returns-then-text-gt-MOST_BYTES : goal.returns-then-text-gt-MOST_BYTES
-returns-then-text-gt-MOST_BYTES c =
-    let s = c.args.text.now in
-    let r = refuses s _ (read_long s c.if-text-gt-MOST_BYTES.true ∙ ap (λ r. Err r) (sym c.refuse.ensures)) in
-    record { value = r.value; judges = r.judges }
+pub returns-in_err-demand : goal.returns-in_err-demand
+unfolding read
+returns-in_err-demand c =
+    let p = err_from_is_err_and c.from_residual.result c.from_residual.ensures.1 in
+    rw (p.1, p.2) (refused c.args.text.now c.in_err-demand.field-0.0 (search rules))
 
 pub returns-in_err-ceiling : goal.returns-in_err-ceiling
+unfolding read
 returns-in_err-ceiling c =
-    let p = err_from_is_err_and c.from_residual.result c.from_residual.ensures.1 in
-    let r = opening_bad c.args.text.now c.if-text-gt-MOST_BYTES.false _ c.past_spaces.ensures.value (sym c.in_err-ceiling.ensures.value) in
-    rw (p.1, p.2) (record { value = r.value; judges = r.judges })
+    let p = err_from_is_err_and c.from_residual-in_err-ceiling.result c.from_residual-in_err-ceiling.ensures.1 in
+    rw (p.1, p.2) (refused c.args.text.now c.in_err-ceiling.field-0.0 (search rules))
 
-pub returns-in_err-ground : goal.returns-in_err-ground
-returns-in_err-ground c =
-    let s = c.args.text.now in
-    let short = c.if-text-gt-MOST_BYTES.false in
-    let begin = c.past_spaces.ensures.value in
-    let h₀ = sym c.in_ok-ceiling.ensures.value in
-    let empty = c.new-parts.ensures in
-    let p = err_from_is_err_and c.from_residual-in_err-ground.result c.from_residual-in_err-ground.ensures.1 in
-    let r = ground_bad s short _ begin h₀ c.new-parts.result empty c.in_err-ground.ensures.read in
-    rw (p.1, p.2) (record { value = r.value; judges = r.judges })
+pub returns-in_err-ground_part : goal.returns-in_err-ground_part
+unfolding read
+returns-in_err-ground_part c =
+    let none = c.new-reader.ensures.empty in
+    let ground = c.in_err-ground_part.ensures.read in
+    let p = err_from_is_err_and c.from_residual-in_err-ground_part.result c.from_residual-in_err-ground_part.ensures.1 in
+    rw (p.1, p.2) (refused c.args.text.now c.in_err-ground_part.field-0.0 (search rules))
 
 pub returns-in_err-hop_bound : goal.returns-in_err-hop_bound
+unfolding read
 returns-in_err-hop_bound c =
-    let s = c.args.text.now in
-    let short = c.if-text-gt-MOST_BYTES.false in
-    let begin = c.past_spaces.ensures.value in
-    let h₀ = sym c.in_ok-ceiling.ensures.value in
-    let empty = c.new-parts.ensures in
+    let none = c.new-reader.ensures.empty in
+    let ground = c.in_ok-ground_part.ensures.read.read in
     let p = err_from_is_err_and c.from_residual-in_err-hop_bound.result c.from_residual-in_err-hop_bound.ensures.1 in
-    let r = until_bad s short _ begin h₀ c.new-parts.result empty c.in_ok-ground.ensures.read (sym c.in_err-hop_bound.ensures.value) in
-    rw (p.1, p.2) (record { value = r.value; judges = r.judges })
+    rw (p.1, p.2) (refused c.args.text.now c.in_err-hop_bound.field-0.0 (search rules))
 
-pub returns-in_err-goal : goal.returns-in_err-goal
-returns-in_err-goal c =
+pub returns-in_err-goal_part : goal.returns-in_err-goal_part
+returns-in_err-goal_part c =
     let s = c.args.text.now in
-    let short = c.if-text-gt-MOST_BYTES.false in
-    let begin = c.past_spaces.ensures.value in
-    let h₀ = sym c.in_ok-ceiling.ensures.value in
-    let empty = c.new-parts.ensures in
-    let p = err_from_is_err_and c.from_residual-in_err-goal.result c.from_residual-in_err-goal.ensures.1 in
-    let r = goal_bad s short _ begin h₀ c.new-parts.result empty c.in_ok-ground.ensures.read (sym c.in_ok-hop_bound.ensures.value) c.in_err-goal.ensures.read in
-    rw (p.1, p.2) (record { value = r.value; judges = r.judges })
+    let short : length s ≤ most_bytes = search rules in
+    let begin = c.new-reader.ensures in
+    let text₁ = c.in_ok-ceiling.ensures.text in
+    let text₂ = c.in_ok-ground_part.ensures.text in
+    let text₃ = c.in_ok-hop_bound.ensures.text in
+    let made = c.in_ok-ground_part.ensures.read in
+    let filled : c.read_state.new.self.parts.count ≡ size made.formula = omega (arith, made.count, begin.empty) in
+    let opened = rw (begin.text, begin.at) at c.in_ok-ceiling.ensures.value in
+    let ground = rw (text₁, begin.text, begin.empty) at made.read in
+    let until = rw (text₂, text₁, begin.text) at c.in_ok-hop_bound.ensures.value in
+    let refused_goal = rw (text₃, text₂, text₁, begin.text, filled) at c.in_err-goal_part.ensures.read in
+    let p = err_from_is_err_and c.from_residual-in_err-goal_part.result c.from_residual-in_err-goal_part.ensures.1 in
+    rw (p.1, p.2) (refused s c.in_err-goal_part.field-0.0 (goal_refused s short opened ground until refused_goal))
 
 pub returns-in_err-read_closing : goal.returns-in_err-read_closing
+unfolding read
 returns-in_err-read_closing c =
-    let s = c.args.text.now in
-    let short = c.if-text-gt-MOST_BYTES.false in
-    let begin = c.past_spaces.ensures.value in
-    let h₀ = sym c.in_ok-ceiling.ensures.value in
-    let empty = c.new-parts.ensures in
+    let made = c.in_ok-ground_part.ensures.read in
+    let none = c.new-reader.ensures.empty in
+    let ground = made.read in
+    let filled : c.read_state.new.self.parts.count ≡ size made.formula = omega (arith, made.count) in
+    let goal_formula = c.in_ok-goal_part.ensures.read.read in
     let p = err_from_is_err_and c.from_residual-in_err-read_closing.result c.from_residual-in_err-read_closing.ensures.1 in
-    let r = closing_bad s short _ begin h₀ c.new-parts.result empty c.in_ok-ground.ensures.read (sym c.in_ok-hop_bound.ensures.value) c.in_ok-goal.ensures.read (sym c.in_err-read_closing.ensures) in
-    rw (p.1, p.2) (record { value = r.value; judges = r.judges })
+    rw (p.1, p.2) (refused c.args.text.now c.in_err-read_closing.field-0.0 (search rules))
 
-pub returns : goal.returns
-returns c =
-    let s = c.args.text.now in
-    let short = c.if-text-gt-MOST_BYTES.false in
-    let begin = c.past_spaces.ensures.value in
-    let h₀ = sym c.in_ok-ceiling.ensures.value in
-    let empty = c.new-parts.ensures in
-    let r = all_read s short _ begin h₀ c.new-parts.result empty c.in_ok-ground.ensures.read (sym c.in_ok-hop_bound.ensures.value) c.in_ok-goal.ensures.read (sym c.in_ok-read_closing.ensures) in
-    record { value = r.value; judges = r.judges }
+pub returns-clause-value : goal.returns-clause-value
+unfolding read
+returns-clause-value c =
+    let made = c.in_ok-ground_part.ensures.read in
+    let none = c.new-reader.ensures.empty in
+    let ground = made.read in
+    let filled : c.read_state.new.self.parts.count ≡ size made.formula = omega (arith, made.count) in
+    let goal_formula = c.in_ok-goal_part.ensures.read.read in
+    search rules
+
+pub returns-clause-judges : goal.returns-clause-judges
+returns-clause-judges c = accepted c.args.text.now c.read_state-2.new.self.parts _ refl (returns-clause-value c)

@@ -1,0 +1,96 @@
+//! A reader of formulas, and how it reads those that need no others.
+ghost use Rattle.std.specs.Prelude.{◌≡◌, ◌+◌, ◌<◌, ◌≤◌, true, [], ◌∷◌, length, IfOk, MatchResult};
+ghost use Rattle.property_parts.specs.Formula.{Formula, parts_of, root};
+ghost use Rattle.property_parts.specs.Parts.{names_earlier, most_parts};
+ghost use Rattle.property_parts.specs.Table.{Filled};
+ghost use Rattle.property_text.specs.Tokens.{past};
+ghost use Rattle.formula_reader.specs.Reading.{lettered, single, lone_letter, negated};
+ghost use Rattle.formula_reader.specs.Answers.{Answers};
+
+use property_parts::{Part, PartTable};
+use property_text::{PropertyFault, Tokens};
+use refusal::{Refusal, demand};
+
+/// Reads formulas from a text, and puts their parts into a table.
+#[derive(Drop)]
+pub struct FormulaReader<'a> {
+    pub tokens: Tokens<'a>,
+    pub parts: PartTable,
+}
+
+fn is_letter(byte: u8) -> bool
+    ensures { result ≡ lettered byte }
+{
+    matches!(byte, b'a'..=b'p')
+}
+
+impl<'a> FormulaReader<'a> {
+    /// From the first token of the text on.
+    pub fn new(text: &'a [u8]) -> FormulaReader<'a>
+        ensures text { result.tokens.text.now ≡ text.now }
+        ensures at { result.tokens.at ≡ past text.now 0 }
+        ensures empty { result.parts.count ≡ 0 }
+    {
+        FormulaReader {
+            tokens: Tokens::new(text),
+            parts: PartTable::new(),
+        }
+    }
+
+    /// Fills a part whose token stands at `place`, and answers its number.
+    pub(crate) fn fill(&mut self, part: Part, place: usize) -> Result<u8, Refusal<PropertyFault>>
+        requires { names_earlier part self.old.parts.count ≡ true }
+        ensures filled { MatchResult result
+            (λ n. Filled self.old.parts part self.new.parts n)
+            (λ e. (self.old.parts.count ≡ most_parts) × (e ≡ record { fault = PropertyFault.TooManyParts; place = place })) }
+        ensures tokens { self.new.tokens ≡ self.old.tokens }
+    {
+        self.parts.fill(part).ok_or(Refusal {
+            fault: PropertyFault::TooManyParts,
+            place,
+        })
+    }
+
+    /// Reads the one token of a formula that has no other part than this.
+    pub(crate) fn read_single(&mut self, part: Part) -> Result<u8, Refusal<PropertyFault>>
+        requires inside { self.old.tokens.at < length self.old.tokens.text.now }
+        requires earlier { names_earlier part self.old.parts.count ≡ true }
+        ensures read { (a : Formula) → root a ≡ 0 → parts_of self.old.parts.count a ≡ part ∷ []
+            → Answers (single self.old.tokens.text.now most_parts a) self.old self.new result }
+        ensures later { IfOk result (λ _. self.old.tokens.at < self.new.tokens.at) }
+        ensures text { self.new.tokens.text ≡ self.old.tokens.text }
+    {
+        let place = self.tokens.place();
+        let number = self.fill(part, place)?;
+        self.tokens.advance();
+        Ok(number)
+    }
+
+    /// Reads a letter.
+    pub(crate) fn read_letter(&mut self) -> Result<u8, Refusal<PropertyFault>>
+        ensures read { Answers (lone_letter self.old.tokens.text.now most_parts) self.old self.new result }
+        ensures later { IfOk result (λ _. self.old.tokens.at < self.new.tokens.at) }
+        ensures text { self.new.tokens.text ≡ self.old.tokens.text }
+    {
+        let byte = self.tokens.byte();
+        demand(
+            is_letter(byte),
+            PropertyFault::TokenMissing,
+            self.tokens.place(),
+        )?;
+        self.read_single(Part::Letter(byte - b'a'))
+    }
+
+    /// Reads `!` and a letter.
+    pub(crate) fn read_negated(&mut self) -> Result<u8, Refusal<PropertyFault>>
+        requires { self.old.tokens.at < length self.old.tokens.text.now }
+        ensures read { Answers (λ n i. negated self.old.tokens.text.now most_parts n i (past self.old.tokens.text.now (i + 1))) self.old self.new result }
+        ensures later { IfOk result (λ _. self.old.tokens.at < self.new.tokens.at) }
+        ensures text { self.new.tokens.text ≡ self.old.tokens.text }
+    {
+        let place = self.tokens.place();
+        self.tokens.advance();
+        let letter = self.read_letter()?;
+        self.fill(Part::Not(letter), place)
+    }
+}
