@@ -5,4 +5,5 @@ mod formulas;
 mod operator;
 mod reader;
 
+pub use crate::operator::Operator;
 pub use crate::reader::FormulaReader;

@@ -5,7 +5,7 @@ ghost use Rattle.formula_reader.specs.Operators.{sign, part};
 use property_parts::Part;
 
 #[derive(Clone, Copy)]
-pub(crate) enum Operator {
+pub enum Operator {
     And,
     Or,
 }
