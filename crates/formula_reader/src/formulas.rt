@@ -38,7 +38,7 @@ impl FormulaReader<'_> {
         operator: Operator,
         deeper: usize,
     ) -> Result<u8, Refusal<PropertyFault>>
-        ensures read { Answers (joined self.old.tokens.text.now most_parts operator (item self.old.tokens.text.now most_parts operator deeper)) self.old self.new result }
+        ensures read { let text = self.old.tokens.text.now in Answers (joined text most_parts operator (item text most_parts operator deeper)) self.old self.new result }
         ensures later { IfOk result (λ _. self.old.tokens.at ≤ self.new.tokens.at) }
         ensures text { self.new.tokens.text ≡ self.old.tokens.text }
     {

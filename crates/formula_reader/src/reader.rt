@@ -84,7 +84,7 @@ impl<'a> FormulaReader<'a> {
     /// Reads `!` and a letter.
     pub(crate) fn read_negated(&mut self) -> Result<u8, Refusal<PropertyFault>>
         requires { self.old.tokens.at < length self.old.tokens.text.now }
-        ensures read { Answers (λ n i. negated self.old.tokens.text.now most_parts n i (past self.old.tokens.text.now (i + 1))) self.old self.new result }
+        ensures read { let text = self.old.tokens.text.now in Answers (λ n i. negated text most_parts n i (past text (i + 1))) self.old self.new result }
         ensures later { IfOk result (λ _. self.old.tokens.at < self.new.tokens.at) }
         ensures text { self.new.tokens.text ≡ self.old.tokens.text }
     {

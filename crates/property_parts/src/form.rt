@@ -15,7 +15,7 @@ impl Part {
     {
         matches!(
             (self, kind),
-            (Part::And(_, _), Kind::Factor) | (Part::Or(_, _), Kind::Term | Kind::Factor)
+            (Part::And(..), Kind::Factor) | (Part::Or(..), Kind::Term | Kind::Factor)
         )
     }
 }
@@ -57,21 +57,21 @@ impl fmt::Display for PartForm<'_> {
         }
         match part {
             Part::Letter(letter) => f.write_char((b'a' + letter) as char),
-            Part::Not(a) => {
+            Part::Not(operand) => {
                 f.write_str("!")?;
-                self.parts.form(a as usize, Kind::Factor).fmt(f)
+                self.parts.form(operand as usize, Kind::Factor).fmt(f)
             }
             Part::True => f.write_str("T"),
             Part::False => f.write_str("F"),
-            Part::And(a, b) => {
-                self.parts.form(a as usize, Kind::Term).fmt(f)?;
+            Part::And(left, right) => {
+                self.parts.form(left as usize, Kind::Term).fmt(f)?;
                 f.write_str("&")?;
-                self.parts.form(b as usize, Kind::Factor).fmt(f)
+                self.parts.form(right as usize, Kind::Factor).fmt(f)
             }
-            Part::Or(a, b) => {
-                self.parts.form(a as usize, Kind::State).fmt(f)?;
+            Part::Or(left, right) => {
+                self.parts.form(left as usize, Kind::State).fmt(f)?;
                 f.write_str("|")?;
-                self.parts.form(b as usize, Kind::Term).fmt(f)
+                self.parts.form(right as usize, Kind::Term).fmt(f)
             }
         }
     }

@@ -15,13 +15,13 @@ impl PartTable {
     {
         match self.part(number) {
             Part::Letter(letter) => (propositions >> letter) % 2 == 1,
-            Part::Not(a) => !self.holds(a as usize, propositions),
+            Part::Not(operand) => !self.holds(operand as usize, propositions),
             Part::True => true,
             Part::False => false,
-            Part::And(a, b) => self.holds(a as usize, propositions)
-                && self.holds(b as usize, propositions),
-            Part::Or(a, b) => self.holds(a as usize, propositions)
-                || self.holds(b as usize, propositions),
+            Part::And(left, right) => self.holds(left as usize, propositions)
+                && self.holds(right as usize, propositions),
+            Part::Or(left, right) => self.holds(left as usize, propositions)
+                || self.holds(right as usize, propositions),
         }
     }
 }

@@ -3,8 +3,13 @@ use Rattle.property_parts.specs.Parts.{most_parts}
 use Rattle.formula_reader.specs.Reading.{item}
 use Rattle.formula_reader.specs.declared.operator.Operator.{Operator}
 use Rattle.formula_reader.specs.declared.operator.Operator.TheVariants.{And, Or}
+use Rattle.formula_reader.specs.declared.reader.FormulaReader.{FormulaReader}
 use Rattle.formula_reader.proofs.Going.{Goes}
 use Rattle.formula_reader.proofs.reader.FormulaReader.+formula.Given as goal
+
+-- calls enough for each byte that is left of the text
+abbrev calls_for : FormulaReader → ℕ
+calls_for r = 8 * (length r.tokens.text.now - r.tokens.at)
 
 -- how many calls stand between a factor and the items that the operator joins
 abbrev above : Operator → ℕ
@@ -12,22 +17,22 @@ above And = 0
 above Or = 3
 
 abbrev pub decreases-read_nested : goal.decreases-read_nested
-decreases-read_nested l = 8 * (length l.self.now.tokens.text.now - l.self.now.tokens.at)
+decreases-read_nested l = calls_for l.self.now
 
 abbrev pub decreases-read_factor : goal.decreases-read_factor
-decreases-read_factor l = 8 * (length l.self.now.tokens.text.now - l.self.now.tokens.at) + 1
+decreases-read_factor l = calls_for l.self.now + 1
 
 abbrev pub decreases-read_item : goal.decreases-read_item
-decreases-read_item l = 8 * (length l.self.now.tokens.text.now - l.self.now.tokens.at) + above l.operator + 2
+decreases-read_item l = calls_for l.self.now + above l.operator + 2
 
 abbrev pub decreases-read_joined : goal.decreases-read_joined
-decreases-read_joined l = 8 * (length l.self.now.tokens.text.now - l.self.now.tokens.at) + above l.operator + 3
+decreases-read_joined l = calls_for l.self.now + above l.operator + 3
 
 abbrev pub decreases-read_term : goal.decreases-read_term
-decreases-read_term l = 8 * (length l.self.now.tokens.text.now - l.self.now.tokens.at) + 4
+decreases-read_term l = calls_for l.self.now + 4
 
 abbrev pub decreases-read_state : goal.decreases-read_state
-decreases-read_state l = 8 * (length l.self.now.tokens.text.now - l.self.now.tokens.at) + 7
+decreases-read_state l = calls_for l.self.now + 7
 
 abbrev pub invariant-read_joined-loop-operator : goal.invariant-read_joined-loop-operator
 invariant-read_joined-loop-operator l =
