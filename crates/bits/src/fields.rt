@@ -3,7 +3,11 @@ ghost use Rattle.std.specs.Prelude.{◌≡◌, ◌+◌, ◌*◌, ◌^◌, ◌<�
 ghost use Rattle.bits.specs.Fields.{field};
 ghost use Rattle.bits.specs.Wrote.{Stored, Wrote};
 
+// A place goes with the bytes, since fields are read anywhere; who reads or writes from the front has a struct for both.
+// A width and a value go on their own: as a struct they would owe the same two bounds where it is made.
+
 /// The byte at a place, or 0 past the end.
+// A number and no option: a field's word takes in what stands behind it, and 0 is what does past the end.
 fn byte_or_zero(bytes: &[u8], place: usize) -> u8
     ensures { result ≡ slice_index bytes.now place }
 {

@@ -54,6 +54,7 @@ const LARGEST: [Case; 8] = [
     (OneEdgeMore, Leftover, 10, 1024),
 ];
 
+// A constant table of cases holds values and no closures, so what is changed is an enum.
 impl Damage {
     fn apply(self, made: &mut Made) -> Result<(), AllocError> {
         match self {

@@ -99,6 +99,7 @@ const WIDEST_ROWS: [Case; 2] = [
     (Some(Change(FOURTH, 1025)), Whole, TooManyEdges, 9, FOURTH),
 ];
 
+// A constant table of cases holds values and no closures, so how a file ends is an enum.
 fn ended(mut bytes: Vec<u8>, end: End) -> Result<Vec<u8>, AllocError> {
     match end {
         Whole => {}
@@ -107,8 +108,9 @@ fn ended(mut bytes: Vec<u8>, end: End) -> Result<Vec<u8>, AllocError> {
         }
         WithZeroByte => bytes.push(0)?,
         WithLastBitSet => {
-            let last = bytes.pop().unwrap_or(0);
-            bytes.push(last | 1)?;
+            if let Some(last) = bytes.last_mut() {
+                *last |= 1;
+            }
         }
     }
     Ok(bytes)

@@ -18,6 +18,7 @@ pub enum FileError<'a> {
 pub struct RefusedFile(pub Refusal<FileFault>);
 
 /// What it is that the place says, up to the place.
+// A text beside that of the fault, which has one Display.
 fn what_begins(fault: FileFault) -> &'static str {
     match fault {
         FileFault::ReversedMark => "The mark begins",

@@ -33,6 +33,7 @@ pub(crate) fn obey<'a>(
     rt: &(impl Print + Files + AllocGlobal),
     words: &'a [String],
 ) -> Result<(), CommandError<'a>> {
+    // Each arm takes words of its own number, which a table of closures would have to count again.
     match words {
         [] => Ok(help(rt)?),
         [verb] if verb.as_str() == "help" => Ok(help(rt)?),

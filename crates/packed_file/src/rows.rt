@@ -35,6 +35,8 @@ impl Fields<'_> {
     }
 
     /// The sum of the weights of the next `count` edges.
+    // `tables` has the like loops over another source. One for both would take a trait with ghost members
+    // for the demands, the value and what is left, each given twice: more than it would save.
     fn edges(&mut self, states: usize, count: usize) -> Result<u32, Refusal<FileFault>>
         requires { count ≤ 2048 }
         ensures { let body = self.old.body.now in let at = self.old.at in

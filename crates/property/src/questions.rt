@@ -46,6 +46,8 @@ impl Property {
         self.parts.count()
     }
 
+    // Ground and goal are asked by two functions of a line each: one over a view of a part would owe the view an invariant.
+
     /// Whether a state with these propositions is in the ground; a is bit 0.
     pub fn ground_holds(&self, propositions: u16) -> bool
         ensures value { result ≡ truth (meaning self.now).parts propositions (meaning self.now).ground_part }

@@ -59,6 +59,7 @@ impl<'a> Tables<'a> {
     }
 
     /// The sum of the weights of the next `count` edges.
+    // `packed_file` has the like loops over another source, and says why they are two.
     fn sum_edges(
         &self,
         state: usize,
