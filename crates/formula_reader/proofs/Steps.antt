@@ -1,5 +1,5 @@
 -- What a factor gives, by the byte that it begins with.
-use Rattle.std.proofs.Common.{◌≡◌, ℕ, zero, suc, ◌+◌, ◌-◌, ◌<◌, ◌≤◌, true, cond, ltb, List, get_or, Ok, Err, Result, sym, refl, ap, ◌∙◌, arith}
+use Rattle.std.proofs.Common.{◌≡◌, ℕ, zero, suc, ◌+◌, ◌-◌, ◌<◌, ◌≤◌, true, cond, ltb, List, get_or, Ok, Err, IfOk, sym, refl, ap, ◌∙◌, arith}
 use Rattle.std.proofs.lemmas.Bool.{lt-ltb, le-leb, and_from}
 use Rattle.refusal.specs.declared.Refusal.{Refusal}
 use Rattle.property_parts.specs.Formula.{Formula, letter, top, bottom}
@@ -10,17 +10,19 @@ use Rattle.property_text.specs.declared.fault.PropertyFault.{PropertyFault}
 use Rattle.property_text.specs.declared.fault.PropertyFault.TheVariants.{TooDeep}
 use Rattle.property_text.proofs.Read.{err_ok}
 use Rattle.formula_reader.specs.Reading.{Reader, lettered, single, lone_letter, negated, factor_by, nested, state}
-use Rattle.formula_reader.specs.Answers.{Made, Answers}
+use Rattle.formula_reader.specs.Answers.{Made, Told, Answers}
 use Rattle.formula_reader.specs.declared.reader.FormulaReader.{FormulaReader}
 
 -- the same, of what is equal to it
 pub made_as : {g h : Read (Formula × ℕ)} {before after : PartTable} {number next : ℕ} → h ≡ g → Made g before after number next → Made h before after number next
 made_as e m = record { formula = m.formula; read = e ∙ m.read; own = m.own; count = m.count; parts = m.parts }
 
-pub answers_as : (reading same : Reader) (before after : FormulaReader) (r : Result ℕ (Refusal PropertyFault))
-    → same before.parts.count before.tokens.at ≡ reading before.parts.count before.tokens.at → Answers reading before after r → Answers same before after r
-answers_as reading same before after (Ok number) e m = made_as e m
-answers_as reading same before after (Err refusal) e m = e ∙ m
+-- behind one token
+pub answers_as : (reading whole : Reader) (before after : FormulaReader) (r : Read ℕ)
+    → whole before.parts.count before.tokens.at ≡ reading before.parts.count before.tokens.at → Told reading before after r
+    → IfOk r (λ _. before.tokens.at < after.tokens.at) → after.tokens.text ≡ before.tokens.text → Answers whole before after r
+answers_as reading whole before after (Ok number) e m l t = record { tells = made_as e m; same = t; later = omega arith }
+answers_as reading whole before after (Err refusal) e m l t = record { tells = e ∙ m; same = t; later = tt }
 
 pub is_lettered : (c : ℕ) → 97 ≤ c → c ≤ 112 → lettered c ≡ true
 is_lettered c l u = and_from _ _ (le-leb 97 c l) (le-leb c 112 u)

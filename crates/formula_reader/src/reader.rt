@@ -5,7 +5,7 @@ ghost use Rattle.property_parts.specs.Parts.{names_earlier, most_parts};
 ghost use Rattle.property_parts.specs.Table.{Filled};
 ghost use Rattle.property_text.specs.Tokens.{past};
 ghost use Rattle.formula_reader.specs.Reading.{lettered, single, lone_letter, negated};
-ghost use Rattle.formula_reader.specs.Answers.{Answers};
+ghost use Rattle.formula_reader.specs.Answers.{Told, Answers};
 
 use property_parts::{Part, PartTable};
 use property_text::{PropertyFault, Tokens};
@@ -56,7 +56,7 @@ impl<'a> FormulaReader<'a> {
         requires inside { self.old.tokens.at < length self.old.tokens.text.now }
         requires earlier { names_earlier part self.old.parts.count ≡ true }
         ensures read { (a : Formula) → root a ≡ 0 → parts_of self.old.parts.count a ≡ part ∷ []
-            → Answers (single self.old.tokens.text.now most_parts a) self.old self.new result }
+            → Told (single self.old.tokens.text.now most_parts a) self.old self.new result }
         ensures later { IfOk result (λ _. self.old.tokens.at < self.new.tokens.at) }
         ensures text { self.new.tokens.text ≡ self.old.tokens.text }
     {
@@ -68,9 +68,7 @@ impl<'a> FormulaReader<'a> {
 
     /// Reads a letter.
     pub(crate) fn read_letter(&mut self) -> Result<u8, Refusal<PropertyFault>>
-        ensures read { Answers (lone_letter self.old.tokens.text.now most_parts) self.old self.new result }
-        ensures later { IfOk result (λ _. self.old.tokens.at < self.new.tokens.at) }
-        ensures text { self.new.tokens.text ≡ self.old.tokens.text }
+        ensures { Answers (lone_letter self.old.tokens.text.now most_parts) self.old self.new result }
     {
         let byte = self.tokens.byte();
         demand(
@@ -84,9 +82,7 @@ impl<'a> FormulaReader<'a> {
     /// Reads `!` and a letter.
     pub(crate) fn read_negated(&mut self) -> Result<u8, Refusal<PropertyFault>>
         requires { self.old.tokens.at < length self.old.tokens.text.now }
-        ensures read { let text = self.old.tokens.text.now in Answers (λ n i. negated text most_parts n i (past text (i + 1))) self.old self.new result }
-        ensures later { IfOk result (λ _. self.old.tokens.at < self.new.tokens.at) }
-        ensures text { self.new.tokens.text ≡ self.old.tokens.text }
+        ensures { let text = self.old.tokens.text.now in Answers (λ n i. negated text most_parts n i (past text (i + 1))) self.old self.new result }
     {
         let place = self.tokens.place();
         self.tokens.advance();
