@@ -37,7 +37,7 @@ impl FormulaReader<'_> {
         ensures { let text = self.old.tokens.text.now in Answers (joined text most_parts operator (item text most_parts operator deeper)) self.old self.new result }
     {
         let mut left = self.read_item(operator, deeper)?;
-        while self.tokens.byte() == operator.sign() {
+        while self.tokens.byte() == Some(operator.sign()) {
             let place = self.tokens.place();
             self.tokens.advance();
             let right = self.read_item(operator, deeper)?;
@@ -63,10 +63,10 @@ impl FormulaReader<'_> {
         ensures { Answers (factor self.old.tokens.text.now most_parts deeper) self.old self.new result }
     {
         match self.tokens.byte() {
-            b'!' => self.read_negated(),
-            b'T' => self.read_single(Part::True),
-            b'F' => self.read_single(Part::False),
-            b'(' => self.read_nested(deeper),
+            Some(b'!') => self.read_negated(),
+            Some(b'T') => self.read_single(Part::True),
+            Some(b'F') => self.read_single(Part::False),
+            Some(b'(') => self.read_nested(deeper),
             _ => self.read_letter(),
         }
     }

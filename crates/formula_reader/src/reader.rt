@@ -9,19 +9,13 @@ ghost use Rattle.formula_reader.specs.Answers.{Told, Answers};
 
 use property_parts::{Part, PartTable};
 use property_text::{PropertyFault, Tokens};
-use refusal::{Refusal, demand};
+use refusal::Refusal;
 
 /// Reads formulas from a text, and puts their parts into a table.
 #[derive(Drop)]
 pub struct FormulaReader<'a> {
     pub tokens: Tokens<'a>,
     pub parts: PartTable,
-}
-
-fn is_letter(byte: u8) -> bool
-    ensures { result ≡ lettered byte }
-{
-    matches!(byte, b'a'..=b'p')
 }
 
 impl<'a> FormulaReader<'a> {
@@ -70,13 +64,10 @@ impl<'a> FormulaReader<'a> {
     pub(crate) fn read_letter(&mut self) -> Result<u8, Refusal<PropertyFault>>
         ensures { Answers (lone_letter self.old.tokens.text.now most_parts) self.old self.new result }
     {
-        let byte = self.tokens.byte();
-        demand(
-            is_letter(byte),
-            PropertyFault::TokenMissing,
-            self.tokens.place(),
-        )?;
-        self.read_single(Part::Letter(byte - b'a'))
+        match self.tokens.byte() {
+            Some(letter @ b'a'..=b'p') => self.read_single(Part::Letter(letter - b'a')),
+            _ => Err(self.tokens.refusal(PropertyFault::TokenMissing)),
+        }
     }
 
     /// Reads `!` and a letter.

@@ -15,7 +15,8 @@ pub struct Tokens<'a> {
 
 impl<'a> Tokens<'a> {
     ghost use Rattle.std.specs.Prelude.{◌≡◌, ◌+◌, ◌<◌, ◌==◌, drop, cond, nat_eq, Ok, slice_index};
-    ghost use Rattle.std.specs.List.{starts_with};
+    ghost use Rattle.std.specs.List.{slice_get, starts_with};
+    ghost use Rattle.std.specs.Option.{unwrap_or};
     ghost use Rattle.property_text.specs.Faults.{ended, refused, up_to};
     ghost use Rattle.property_text.specs.Reading.{Reads};
     ghost use Rattle.property_text.specs.Tokens.{past, byte as byte-token, at_most, number};
@@ -38,16 +39,12 @@ impl<'a> Tokens<'a> {
         self.at
     }
 
-    /// The byte with which the next token begins; 0 at the end.
-    pub fn byte(&self) -> u8
-        ensures value { result ≡ slice_index self.now.text.now self.now.at }
-        ensures inside { 0 < result → self.now.at < length self.now.text.now }
+    /// The byte with which the next token begins; none at the end.
+    pub fn byte(&self) -> Option<u8>
+        ensures value { result ≡ slice_get self.now.text.now self.now.at }
+        ensures stands { slice_index self.now.text.now self.now.at ≡ unwrap_or result 0 }
     {
-        if self.is_at_end() {
-            0
-        } else {
-            self.text[self.at]
-        }
+        self.text.get(self.at).copied()
     }
 
     pub fn is_at_end(&self) -> bool
