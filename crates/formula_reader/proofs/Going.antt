@@ -1,6 +1,7 @@
 -- A loop that reads items joined by an operator: what the whole gives is what the rest gives.
-use Rattle.std.proofs.Common.{◌≡◌, ℕ, zero, suc, ◌+◌, ◌<◌, ◌≤◌, true, false, ltb, List, [], ◌∷◌, ◌++◌, get_or, Ok, Err, sym, refl, ap, ◌∙◌, append_assoc, arith}
-use Rattle.std.proofs.lemmas.Bool.{lt-ltb, le-ltb, eq-eqb, ne_eqb}
+use Rattle.std.proofs.Common.{◌≡◌, ℕ, zero, suc, ◌+◌, ◌<◌, ◌≤◌, true, false, eqb, ltb, Option, Some, None, List, [], ◌∷◌, ◌++◌, get_or, Ok, Err, sym, refl, ap, ◌∙◌, append_assoc, arith}
+use Rattle.std.proofs.lemmas.Bool.{lt-ltb, le-ltb, eq-eqb, eqb-true, ne_eqb, both_ways}
+use Rattle.std.specs.Option.{option_eq, unwrap_or}
 use Rattle.refusal.specs.declared.Refusal.{Refusal}
 use Rattle.property_parts.specs.Formula.{Formula, root, size, parts_of}
 use Rattle.property_parts.specs.Parts.{most_parts}
@@ -60,9 +61,24 @@ pub record Behind (s : List ℕ) (o : Operator) (i : ℕ) (u : List ℕ) (j : �
   pub same : u ≡ s
   pub next : j ≡ past s (i + 1)
 
-pub behind : {s t u : List ℕ} {o : Operator} {i j b c : ℕ} → t ≡ s → b ≡ get_or t i 0 → b ≡ c → c ≡ sign o → u ≡ t → j ≡ past t (i + 1) → Behind s o i u j
-behind {s} {t} {u} {o} {i} {j} e f g h k l =
-    record { here = ap (λ x. get_or x i 0) (sym e) ∙ (sym f ∙ (g ∙ h)); same = k ∙ e; next = l ∙ ap (λ x. past x (i + 1)) e }
+-- the test whether a byte is there and is b; 0 stands for none
+byte_test : (byte : Option ℕ) (b : ℕ) → 0 < b → option_eq eqb byte (Some b) ≡ eqb (unwrap_or byte 0) b
+byte_test None b h = sym (ne_eqb 0 b (λ e. omega arith))
+byte_test (Some x) b h = refl
+
+sign_some : (o : Operator) → 0 < sign o
+sign_some And = omega arith
+sign_some Or = omega arith
+
+pub behind : {s t u : List ℕ} {o : Operator} {i j : ℕ} (byte : Option ℕ) → t ≡ s → get_or t i 0 ≡ unwrap_or byte 0 → true ≡ option_eq eqb byte (Some (sign o))
+    → u ≡ t → j ≡ past t (i + 1) → Behind s o i u j
+behind {o = o} byte e f h k l =
+    rw (sym e) (record { here = f ∙ eqb-true _ _ (sym (h ∙ byte_test byte (sign o) (sign_some o))); same = k; next = l })
+
+pub not_behind : {s t : List ℕ} (o : Operator) (i : ℕ) (byte : Option ℕ) → t ≡ s → get_or t i 0 ≡ unwrap_or byte 0 → false ≡ option_eq eqb byte (Some (sign o))
+    → get_or s i 0 ≡ sign o → ⊥
+not_behind o i byte e f h q =
+    both_ways _ (sym (h ∙ byte_test byte (sign o) (sign_some o))) (eq-eqb _ _ (sym f ∙ (ap (λ x. get_or x i 0) e ∙ q)))
 
 grown : (mk : ℕ → ℕ → Part) (left before after after₁ after₂ : List Part) (right : ℕ → List Part) (m k v v₁ x y : ℕ)
     → m ≡ k → v ≡ x → v₁ ≡ m + y → after ≡ before ++ left → after₁ ≡ after ++ right m → after₂ ≡ after₁ ++ (mk v v₁ ∷ [])

@@ -1,5 +1,5 @@
 -- What a factor gives, by the byte that it begins with.
-use Rattle.std.proofs.Common.{◌≡◌, ℕ, zero, suc, ◌+◌, ◌-◌, ◌<◌, ◌≤◌, true, cond, ltb, List, get_or, Ok, Err, Result, sym, refl, ap, ◌∙◌, arith}
+use Rattle.std.proofs.Common.{◌≡◌, ℕ, zero, suc, ◌+◌, ◌-◌, ◌<◌, ◌≤◌, true, cond, ltb, List, get_or, Ok, Err, IfOk, sym, refl, ap, ◌∙◌, arith}
 use Rattle.std.proofs.lemmas.Bool.{lt-ltb, le-leb, and_from}
 use Rattle.refusal.specs.declared.Refusal.{Refusal}
 use Rattle.property_parts.specs.Formula.{Formula, letter, top, bottom}
@@ -9,18 +9,28 @@ use Rattle.property_text.specs.Tokens.{past, byte}
 use Rattle.property_text.specs.declared.fault.PropertyFault.{PropertyFault}
 use Rattle.property_text.specs.declared.fault.PropertyFault.TheVariants.{TooDeep}
 use Rattle.property_text.proofs.Read.{err_ok}
-use Rattle.formula_reader.specs.Reading.{Reader, lettered, single, lone_letter, negated, factor_by, nested, state}
-use Rattle.formula_reader.specs.Answers.{Made, Answers}
+use Rattle.formula_reader.specs.Reading.{Reader, lettered, single, negated, factor_by, nested, state}
+use Rattle.formula_reader.specs.Answers.{Made, Told, Answers}
 use Rattle.formula_reader.specs.declared.reader.FormulaReader.{FormulaReader}
 
 -- the same, of what is equal to it
 pub made_as : {g h : Read (Formula × ℕ)} {before after : PartTable} {number next : ℕ} → h ≡ g → Made g before after number next → Made h before after number next
 made_as e m = record { formula = m.formula; read = e ∙ m.read; own = m.own; count = m.count; parts = m.parts }
 
-pub answers_as : (reading same : Reader) (before after : FormulaReader) (r : Result ℕ (Refusal PropertyFault))
-    → same before.parts.count before.tokens.at ≡ reading before.parts.count before.tokens.at → Answers reading before after r → Answers same before after r
-answers_as reading same before after (Ok number) e m = made_as e m
-answers_as reading same before after (Err refusal) e m = e ∙ m
+told_as : (reading whole : Reader) (before after : FormulaReader) (r : Read ℕ)
+    → whole before.parts.count before.tokens.at ≡ reading before.parts.count before.tokens.at → Told reading before after r → Told whole before after r
+told_as reading whole before after (Ok number) e m = made_as e m
+told_as reading whole before after (Err refusal) e m = e ∙ m
+
+pub answers_as : (reading whole : Reader) (before after : FormulaReader) (r : Read ℕ)
+    → whole before.parts.count before.tokens.at ≡ reading before.parts.count before.tokens.at → Answers reading before after r → Answers whole before after r
+answers_as reading whole before after r e a = record { tells = told_as reading whole before after r e a.tells; same = a.same; later = a.later }
+
+-- behind one token
+pub answers_single : (reading : Reader) (before after : FormulaReader) (r : Read ℕ)
+    → Told reading before after r → IfOk r (λ _. before.tokens.at < after.tokens.at) → after.tokens.text ≡ before.tokens.text → Answers reading before after r
+answers_single reading before after (Ok number) m l t = record { tells = m; same = t; later = omega arith }
+answers_single reading before after (Err refusal) m l t = record { tells = m; same = t; later = tt }
 
 pub is_lettered : (c : ℕ) → 97 ≤ c → c ≤ 112 → lettered c ≡ true
 is_lettered c l u = and_from _ _ (le-leb 97 c l) (le-leb c 112 u)
@@ -42,9 +52,6 @@ module _ (s : List ℕ) (full : ℕ) (inner : Reader) (n i : ℕ) where
   factor_open e = rw e
 
 module _ (s : List ℕ) (full n i : ℕ) where
-  pub lone_letter_at : (b : ℕ) → b ≡ get_or s i 0 → lettered b ≡ true → lone_letter s full n i ≡ single s full (letter (b - 97)) n i
-  lone_letter_at b e q = rw (sym e, q) refl
-
   -- where the demand that one more parenthesis may be open is not met
   pub nested_refused : {A : Type 0} (d : ℕ) (a : A) (r : Refusal PropertyFault) → Err r ≡ cond (ltb 0 d) (Ok a) (Err (record { fault = TooDeep; place = i })) → nested s full d n i ≡ Err r
   unfolding nested

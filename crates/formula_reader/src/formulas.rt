@@ -1,5 +1,5 @@
 //! State, term and factor, each reading with the others. The bytes that are left of the text fall from call to call.
-ghost use Rattle.std.specs.Prelude.{◌≡◌, ◌<◌, ◌≤◌, length, IfOk};
+ghost use Rattle.std.specs.Prelude.{◌≡◌, ◌<◌, ◌≤◌, length};
 ghost use Rattle.property_parts.specs.Parts.{most_parts};
 ghost use Rattle.formula_reader.specs.Reading.{state, term, factor, nested, item, joined};
 ghost use Rattle.formula_reader.specs.Answers.{Answers};
@@ -14,9 +14,7 @@ impl FormulaReader<'_> {
     /// Reads terms joined by `|`, where `deeper` more parentheses may be open, and answers the number of their part.
     #[cycle(formula)]
     pub fn read_state(&mut self, deeper: usize) -> Result<u8, Refusal<PropertyFault>>
-        ensures read { Answers (state self.old.tokens.text.now most_parts deeper) self.old self.new result }
-        ensures later { IfOk result (λ _. self.old.tokens.at ≤ self.new.tokens.at) }
-        ensures text { self.new.tokens.text ≡ self.old.tokens.text }
+        ensures { Answers (state self.old.tokens.text.now most_parts deeper) self.old self.new result }
     {
         self.read_joined(Operator::Or, deeper)
     }
@@ -24,9 +22,7 @@ impl FormulaReader<'_> {
     /// Reads factors joined by `&`.
     #[cycle(formula)]
     fn read_term(&mut self, deeper: usize) -> Result<u8, Refusal<PropertyFault>>
-        ensures read { Answers (term self.old.tokens.text.now most_parts deeper) self.old self.new result }
-        ensures later { IfOk result (λ _. self.old.tokens.at ≤ self.new.tokens.at) }
-        ensures text { self.new.tokens.text ≡ self.old.tokens.text }
+        ensures { Answers (term self.old.tokens.text.now most_parts deeper) self.old self.new result }
     {
         self.read_joined(Operator::And, deeper)
     }
@@ -38,12 +34,10 @@ impl FormulaReader<'_> {
         operator: Operator,
         deeper: usize,
     ) -> Result<u8, Refusal<PropertyFault>>
-        ensures read { let text = self.old.tokens.text.now in Answers (joined text most_parts operator (item text most_parts operator deeper)) self.old self.new result }
-        ensures later { IfOk result (λ _. self.old.tokens.at ≤ self.new.tokens.at) }
-        ensures text { self.new.tokens.text ≡ self.old.tokens.text }
+        ensures { let text = self.old.tokens.text.now in Answers (joined text most_parts operator (item text most_parts operator deeper)) self.old self.new result }
     {
         let mut left = self.read_item(operator, deeper)?;
-        while self.tokens.byte() == operator.sign() {
+        while self.tokens.byte() == Some(operator.sign()) {
             let place = self.tokens.place();
             self.tokens.advance();
             let right = self.read_item(operator, deeper)?;
@@ -55,9 +49,7 @@ impl FormulaReader<'_> {
     /// Reads what the operator joins.
     #[cycle(formula)]
     fn read_item(&mut self, operator: Operator, deeper: usize) -> Result<u8, Refusal<PropertyFault>>
-        ensures read { Answers (item self.old.tokens.text.now most_parts operator deeper) self.old self.new result }
-        ensures later { IfOk result (λ _. self.old.tokens.at ≤ self.new.tokens.at) }
-        ensures text { self.new.tokens.text ≡ self.old.tokens.text }
+        ensures { Answers (item self.old.tokens.text.now most_parts operator deeper) self.old self.new result }
     {
         match operator {
             Operator::And => self.read_factor(deeper),
@@ -68,15 +60,13 @@ impl FormulaReader<'_> {
     /// Reads a letter, `!` and a letter, `T`, `F`, or a state formula in parentheses.
     #[cycle(formula)]
     fn read_factor(&mut self, deeper: usize) -> Result<u8, Refusal<PropertyFault>>
-        ensures read { Answers (factor self.old.tokens.text.now most_parts deeper) self.old self.new result }
-        ensures later { IfOk result (λ _. self.old.tokens.at ≤ self.new.tokens.at) }
-        ensures text { self.new.tokens.text ≡ self.old.tokens.text }
+        ensures { Answers (factor self.old.tokens.text.now most_parts deeper) self.old self.new result }
     {
         match self.tokens.byte() {
-            b'!' => self.read_negated(),
-            b'T' => self.read_single(Part::True),
-            b'F' => self.read_single(Part::False),
-            b'(' => self.read_nested(deeper),
+            Some(b'!') => self.read_negated(),
+            Some(b'T') => self.read_single(Part::True),
+            Some(b'F') => self.read_single(Part::False),
+            Some(b'(') => self.read_nested(deeper),
             _ => self.read_letter(),
         }
     }
@@ -85,9 +75,7 @@ impl FormulaReader<'_> {
     #[cycle(formula)]
     fn read_nested(&mut self, deeper: usize) -> Result<u8, Refusal<PropertyFault>>
         requires { self.old.tokens.at < length self.old.tokens.text.now }
-        ensures read { Answers (nested self.old.tokens.text.now most_parts deeper) self.old self.new result }
-        ensures later { IfOk result (λ _. self.old.tokens.at ≤ self.new.tokens.at) }
-        ensures text { self.new.tokens.text ≡ self.old.tokens.text }
+        ensures { Answers (nested self.old.tokens.text.now most_parts deeper) self.old self.new result }
     {
         demand(deeper > 0, PropertyFault::TooDeep, self.tokens.place())?;
         self.tokens.advance();

@@ -5,23 +5,17 @@ ghost use Rattle.property_parts.specs.Parts.{names_earlier, most_parts};
 ghost use Rattle.property_parts.specs.Table.{Filled};
 ghost use Rattle.property_text.specs.Tokens.{past};
 ghost use Rattle.formula_reader.specs.Reading.{lettered, single, lone_letter, negated};
-ghost use Rattle.formula_reader.specs.Answers.{Answers};
+ghost use Rattle.formula_reader.specs.Answers.{Told, Answers};
 
 use property_parts::{Part, PartTable};
 use property_text::{PropertyFault, Tokens};
-use refusal::{Refusal, demand};
+use refusal::Refusal;
 
 /// Reads formulas from a text, and puts their parts into a table.
 #[derive(Drop)]
 pub struct FormulaReader<'a> {
     pub tokens: Tokens<'a>,
     pub parts: PartTable,
-}
-
-fn is_letter(byte: u8) -> bool
-    ensures { result ≡ lettered byte }
-{
-    matches!(byte, b'a'..=b'p')
 }
 
 impl<'a> FormulaReader<'a> {
@@ -56,7 +50,7 @@ impl<'a> FormulaReader<'a> {
         requires inside { self.old.tokens.at < length self.old.tokens.text.now }
         requires earlier { names_earlier part self.old.parts.count ≡ true }
         ensures read { (a : Formula) → root a ≡ 0 → parts_of self.old.parts.count a ≡ part ∷ []
-            → Answers (single self.old.tokens.text.now most_parts a) self.old self.new result }
+            → Told (single self.old.tokens.text.now most_parts a) self.old self.new result }
         ensures later { IfOk result (λ _. self.old.tokens.at < self.new.tokens.at) }
         ensures text { self.new.tokens.text ≡ self.old.tokens.text }
     {
@@ -68,25 +62,18 @@ impl<'a> FormulaReader<'a> {
 
     /// Reads a letter.
     pub(crate) fn read_letter(&mut self) -> Result<u8, Refusal<PropertyFault>>
-        ensures read { Answers (lone_letter self.old.tokens.text.now most_parts) self.old self.new result }
-        ensures later { IfOk result (λ _. self.old.tokens.at < self.new.tokens.at) }
-        ensures text { self.new.tokens.text ≡ self.old.tokens.text }
+        ensures { Answers (lone_letter self.old.tokens.text.now most_parts) self.old self.new result }
     {
-        let byte = self.tokens.byte();
-        demand(
-            is_letter(byte),
-            PropertyFault::TokenMissing,
-            self.tokens.place(),
-        )?;
-        self.read_single(Part::Letter(byte - b'a'))
+        match self.tokens.byte() {
+            Some(letter @ b'a'..=b'p') => self.read_single(Part::Letter(letter - b'a')),
+            _ => Err(self.tokens.refusal(PropertyFault::TokenMissing)),
+        }
     }
 
     /// Reads `!` and a letter.
     pub(crate) fn read_negated(&mut self) -> Result<u8, Refusal<PropertyFault>>
         requires { self.old.tokens.at < length self.old.tokens.text.now }
-        ensures read { let text = self.old.tokens.text.now in Answers (λ n i. negated text most_parts n i (past text (i + 1))) self.old self.new result }
-        ensures later { IfOk result (λ _. self.old.tokens.at < self.new.tokens.at) }
-        ensures text { self.new.tokens.text ≡ self.old.tokens.text }
+        ensures { let text = self.old.tokens.text.now in Answers (λ n i. negated text most_parts n i (past text (i + 1))) self.old self.new result }
     {
         let place = self.tokens.place();
         self.tokens.advance();

@@ -1,6 +1,7 @@
 //! The reader of a property's text.
 ghost use Rattle.std.specs.Prelude.{◌≡◌, ◌≤◌, IfOk, Ok, Err, MatchResult};
-ghost use Rattle.property_text.specs.Faults.{ended, up_to};
+ghost use Rattle.property_text.specs.Faults.{up_to};
+ghost use Rattle.property_text.specs.Reading.{Reads};
 ghost use Rattle.property.specs.Limits.{most_lower, most_hops};
 ghost use Rattle.property.specs.Reading.{lower as lower-number, hops as hops-number, opening, until, closing, answer};
 ghost use Rattle.property.specs.Meaning.{meaning};
@@ -16,8 +17,7 @@ use refusal::{Refusal, demand};
 /// Reads the number under the line of a ceiling, which is not 0, within its limit, and not less than the one above.
 fn read_lower(tokens: &mut Tokens, upper: u32) -> Result<u32, Refusal<PropertyFault>>
     ensures bound { IfOk result (λ lower. (1 ≤ lower) × (lower ≤ most_lower) × (upper ≤ lower)) }
-    ensures value { up_to tokens.new.at result ≡ lower-number tokens.old.text.now upper tokens.old.at }
-    ensures text { tokens.new.text ≡ tokens.old.text }
+    ensures read { Reads tokens.old tokens.new (up_to tokens.new.at result) (lower-number tokens.old.text.now upper tokens.old.at) }
 {
     let place = tokens.place();
     let lower = tokens.read_number()?;
@@ -32,8 +32,7 @@ fn read_lower(tokens: &mut Tokens, upper: u32) -> Result<u32, Refusal<PropertyFa
 /// Reads a hop bound.
 fn read_hops(tokens: &mut Tokens) -> Result<u32, Refusal<PropertyFault>>
     ensures bound { IfOk result (λ hops. hops ≤ most_hops) }
-    ensures value { up_to tokens.new.at result ≡ hops-number tokens.old.text.now tokens.old.at }
-    ensures text { tokens.new.text ≡ tokens.old.text }
+    ensures read { Reads tokens.old tokens.new (up_to tokens.new.at result) (hops-number tokens.old.text.now tokens.old.at) }
 {
     let place = tokens.place();
     let hops = tokens.read_number()?;
@@ -44,8 +43,7 @@ fn read_hops(tokens: &mut Tokens) -> Result<u32, Refusal<PropertyFault>>
 /// Reads `P <= number / number [`.
 fn read_opening(tokens: &mut Tokens) -> Result<Ceiling, Refusal<PropertyFault>>
     ensures bound { IfOk result (λ ceiling. (1 ≤ ceiling.lower) × (ceiling.lower ≤ most_lower) × (ceiling.upper ≤ ceiling.lower)) }
-    ensures value { up_to tokens.new.at result ≡ opening tokens.old.text.now tokens.old.at }
-    ensures text { tokens.new.text ≡ tokens.old.text }
+    ensures read { Reads tokens.old tokens.new (up_to tokens.new.at result) (opening tokens.old.text.now tokens.old.at) }
 {
     tokens.read_byte(b'P')?;
     tokens.read_at_most()?;
@@ -59,8 +57,7 @@ fn read_opening(tokens: &mut Tokens) -> Result<Ceiling, Refusal<PropertyFault>>
 /// Reads `U <= number`.
 fn read_until(tokens: &mut Tokens) -> Result<u32, Refusal<PropertyFault>>
     ensures bound { IfOk result (λ hops. hops ≤ most_hops) }
-    ensures value { up_to tokens.new.at result ≡ until tokens.old.text.now tokens.old.at }
-    ensures text { tokens.new.text ≡ tokens.old.text }
+    ensures read { Reads tokens.old tokens.new (up_to tokens.new.at result) (until tokens.old.text.now tokens.old.at) }
 {
     tokens.read_byte(b'U')?;
     tokens.read_at_most()?;

@@ -1,3 +1,4 @@
 pub mod Faults
 pub mod Spelling
 pub mod Tokens
+pub mod Reading

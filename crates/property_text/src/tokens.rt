@@ -1,8 +1,5 @@
 //! The tokens of a text, one by one from its front.
-ghost use Rattle.std.specs.Prelude.{◌≡◌, ◌+◌, ◌<◌, ◌≤◌, ◌==◌, length, drop, cond, nat_eq, Ok, IfOk, slice_index};
-ghost use Rattle.std.specs.List.{starts_with};
-ghost use Rattle.property_text.specs.Faults.{ended, refused, up_to};
-ghost use Rattle.property_text.specs.Tokens.{past, byte as byte-token, at_most, number};
+ghost use Rattle.std.specs.Prelude.{◌≤◌, length};
 
 use crate::bytes::{leading_digits, number_written, past_spaces};
 use crate::fault::PropertyFault;
@@ -17,6 +14,13 @@ pub struct Tokens<'a> {
 }
 
 impl<'a> Tokens<'a> {
+    ghost use Rattle.std.specs.Prelude.{◌≡◌, ◌+◌, ◌<◌, ◌==◌, drop, cond, nat_eq, Ok, slice_index};
+    ghost use Rattle.std.specs.List.{slice_get, starts_with};
+    ghost use Rattle.std.specs.Option.{unwrap_or};
+    ghost use Rattle.property_text.specs.Faults.{ended, refused, up_to};
+    ghost use Rattle.property_text.specs.Reading.{Reads};
+    ghost use Rattle.property_text.specs.Tokens.{past, byte as byte-token, at_most, number};
+
     /// From the first token of the text on.
     pub fn new(text: &'a [u8]) -> Tokens<'a>
         ensures text { result.text.now ≡ text.now }
@@ -35,16 +39,12 @@ impl<'a> Tokens<'a> {
         self.at
     }
 
-    /// The byte with which the next token begins; 0 at the end.
-    pub fn byte(&self) -> u8
-        ensures value { result ≡ slice_index self.now.text.now self.now.at }
-        ensures inside { 0 < result → self.now.at < length self.now.text.now }
+    /// The byte with which the next token begins; none at the end.
+    pub fn byte(&self) -> Option<u8>
+        ensures value { result ≡ slice_get self.now.text.now self.now.at }
+        ensures stands { slice_index self.now.text.now self.now.at ≡ unwrap_or result 0 }
     {
-        if self.is_at_end() {
-            0
-        } else {
-            self.text[self.at]
-        }
+        self.text.get(self.at).copied()
     }
 
     pub fn is_at_end(&self) -> bool
@@ -72,11 +72,9 @@ impl<'a> Tokens<'a> {
 
     /// Reads a token of these bytes.
     fn read_token(&mut self, token: &[u8]) -> Result<(), Refusal<PropertyFault>>
-        ensures value { ended self.new.at result ≡ cond (starts_with nat_eq (drop self.old.at self.old.text.now) token.now)
+        ensures { Reads self.old self.new (ended self.new.at result) (cond (starts_with nat_eq (drop self.old.at self.old.text.now) token.now)
             (Ok (past self.old.text.now (self.old.at + length token.now)))
-            (refused PropertyFault.TokenMissing self.old.at) }
-        ensures later { IfOk result (λ _. self.old.at + length token.now ≤ self.new.at) }
-        ensures text { self.new.text ≡ self.old.text }
+            (refused PropertyFault.TokenMissing self.old.at)) }
     {
         demand(
             self.rest().starts_with(token),
@@ -90,25 +88,21 @@ impl<'a> Tokens<'a> {
     /// Reads a token of one byte.
     pub fn read_byte(&mut self, token: u8) -> Result<(), Refusal<PropertyFault>>
         requires { 0 < token }
-        ensures value { ended self.new.at result ≡ byte-token self.old.text.now token self.old.at }
-        ensures later { IfOk result (λ _. self.old.at < self.new.at) }
-        ensures text { self.new.text ≡ self.old.text }
+        ensures { Reads self.old self.new (ended self.new.at result) (byte-token self.old.text.now token self.old.at) }
     {
         self.read_token(&[token])
     }
 
     /// Reads `<=`.
     pub fn read_at_most(&mut self) -> Result<(), Refusal<PropertyFault>>
-        ensures value { ended self.new.at result ≡ at_most self.old.text.now self.old.at }
-        ensures text { self.new.text ≡ self.old.text }
+        ensures { Reads self.old self.new (ended self.new.at result) (at_most self.old.text.now self.old.at) }
     {
         self.read_token(b"<=")
     }
 
     /// Reads a number of at most five digits, with no needless 0 in front.
     pub fn read_number(&mut self) -> Result<u32, Refusal<PropertyFault>>
-        ensures value { up_to self.new.at result ≡ number self.old.text.now self.old.at }
-        ensures text { self.new.text ≡ self.old.text }
+        ensures { Reads self.old self.new (up_to self.new.at result) (number self.old.text.now self.old.at) }
     {
         let written = leading_digits(self.rest());
         demand(!written.is_empty(), PropertyFault::TokenMissing, self.at)?;

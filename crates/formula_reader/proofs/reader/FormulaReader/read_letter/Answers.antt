@@ -1,15 +1,14 @@
-use Rattle.std.proofs.Common.{◌-◌, sym, refl, ◌∙◌}
+use Rattle.std.proofs.Common.{◌-◌, refl, arith}
 use Rattle.property_parts.specs.Formula.{letter}
 use Rattle.property_parts.specs.Parts.{most_parts}
-use Rattle.property_text.proofs.Read.{test_ok}
 use Rattle.formula_reader.specs.Reading.{single, lone_letter}
-use Rattle.formula_reader.proofs.Steps.{answers_as, lone_letter_at}
+use Rattle.formula_reader.proofs.Steps.{answers_as, answers_single, is_lettered}
 use Rattle.formula_reader.proofs.reader.FormulaReader.read_letter.Goals as goal
 
-pub returns-clause-read : goal.returns-clause-read
-returns-clause-read c =
+pub returns-in-Some-97-to-112 : goal.returns-in-Some-97-to-112
+returns-in-Some-97-to-112 c =
     let s = c.args.self.now.tokens.text.now in
-    let b = c.byte-byte.result in
-    let q = sym c.is_letter.ensures ∙ (test_ok _ c.is_letter.result _ (sym c.in_ok-demand.ensures)).0 in
-    answers_as (single s most_parts (letter (b - 97))) (lone_letter s most_parts) c.args.self.now c.read_single.new.self c.read_single.result
-    (lone_letter_at s most_parts _ _ b c.byte-byte.ensures.value q) (c.read_single.ensures.read (letter (b - 97)) refl refl)
+    let b = c.in-Some-97-to-112.letter in
+    answers_as (single s most_parts (letter (b - 97))) (lone_letter s most_parts) _ _ _
+    (rw (c.in-Some-97-to-112.ensures.stands, is_lettered b (omega arith) (omega arith)) refl)
+    (answers_single _ _ _ _ (c.read_single.ensures.read (letter (b - 97)) refl refl) c.read_single.ensures.later c.read_single.ensures.text)
