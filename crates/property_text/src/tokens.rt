@@ -53,6 +53,16 @@ impl<'a> Tokens<'a> {
         self.at == self.text.len()
     }
 
+    /// What is wrong with the next token.
+    pub fn refusal(&self, fault: PropertyFault) -> Refusal<PropertyFault>
+        ensures { result ≡ record { fault = fault; place = self.now.at } }
+    {
+        Refusal {
+            fault,
+            place: self.at,
+        }
+    }
+
     /// Goes past the next byte, and past the spaces behind it.
     pub fn advance(&mut self)
         requires { self.old.at < length self.old.text.now }
