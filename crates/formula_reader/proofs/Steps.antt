@@ -3,23 +3,19 @@ use Rattle.std.proofs.Common.{◌≡◌, ℕ, zero, suc, ◌+◌, ◌-◌, ◌<�
 use Rattle.std.proofs.lemmas.Bool.{lt-ltb, le-leb, and_from}
 use Rattle.refusal.specs.declared.Refusal.{Refusal}
 use Rattle.property_parts.specs.Formula.{Formula, letter, top, bottom}
-use Rattle.property_parts.specs.declared.table.PartTable.{PartTable}
 use Rattle.property_text.specs.Faults.{Read, ◌>>=◌}
 use Rattle.property_text.specs.Tokens.{past, byte}
 use Rattle.property_text.specs.declared.fault.PropertyFault.{PropertyFault}
 use Rattle.property_text.specs.declared.fault.PropertyFault.TheVariants.{TooDeep}
 use Rattle.property_text.proofs.Read.{err_ok}
 use Rattle.formula_reader.specs.Reading.{Reader, lettered, single, negated, factor_by, nested, state}
-use Rattle.formula_reader.specs.Answers.{Made, Told, Answers}
+use Rattle.formula_reader.specs.Answers.{Told, Answers}
 use Rattle.formula_reader.specs.declared.reader.FormulaReader.{FormulaReader}
 
 -- the same, of what is equal to it
-pub made_as : {g h : Read (Formula × ℕ)} {before after : PartTable} {number next : ℕ} → h ≡ g → Made g before after number next → Made h before after number next
-made_as e m = record { formula = m.formula; read = e ∙ m.read; own = m.own; count = m.count; parts = m.parts }
-
 told_as : (reading whole : Reader) (before after : FormulaReader) (r : Read ℕ)
     → whole before.parts.count before.tokens.at ≡ reading before.parts.count before.tokens.at → Told reading before after r → Told whole before after r
-told_as reading whole before after (Ok number) e m = made_as e m
+told_as reading whole before after (Ok number) e m = record { formula = m.formula; read = e ∙ m.read; own = m.own; count = m.count; parts = m.parts }
 told_as reading whole before after (Err refusal) e m = e ∙ m
 
 pub answers_as : (reading whole : Reader) (before after : FormulaReader) (r : Read ℕ)

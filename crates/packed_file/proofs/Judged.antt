@@ -1,6 +1,5 @@
 -- What the check's answer says, from the demands.
-use Rattle.std.proofs.Common.{◌≡◌, ℕ, suc, ◌-◌, ◌<◌, ◌≤◌, List, [], ◌∷◌, length, get_or, take, drop, Ok, Err, sym, ap, ◌∙◌, subst, arith}
-use Rattle.std.proofs.lemmas.List.{take_all}
+use Rattle.std.proofs.Common.{◌≡◌, ℕ, suc, ◌<◌, List, get_or, drop, Ok, Err, sym, ap, ◌∙◌, subst}
 use Rattle.refusal.specs.declared.Refusal.{Refusal}
 use Rattle.refusal.specs.Demands.{Met}
 use Rattle.refusal.proofs.Told.{met_told, ok_met, told_first, ok_err}
@@ -13,12 +12,6 @@ use Rattle.packed_file.specs.Judgement.{Judges, Faultless}
 use Rattle.packed_file.proofs.Holding.{Holds, Bytes}
 use Rattle.packed_file.proofs.Files.{packed_holds, holds_packed}
 use Rattle.packed_file.proofs.Fits.{met_lawful, met_holds, one_chain, lawful_met}
-
--- a slice that begins with the mark
-pub begins_marked : (bytes : List ℕ) → 2 ≤ length bytes → get_or bytes 0 0 ≡ 0xFE → get_or bytes 1 0 ≡ 0xFF → bytes ≡ marked (take (length bytes - 2) (drop 2 bytes))
-begins_marked [] l a b = absurd (omega arith)
-begins_marked (x ∷ []) l a b = absurd (omega arith)
-begins_marked (x ∷ y ∷ body) l a b = rw (a, b, take_all (length (x ∷ y ∷ body) - 2) body (omega arith))
 
 same_body : (xs ys : List ℕ) → marked xs ≡ marked ys → xs ≡ ys
 same_body xs ys e = ap (drop 2) e
