@@ -45,6 +45,8 @@ impl<'a> FormulaReader<'a> {
         })
     }
 
+    // That a token stands here is asked where a token is gone past: the caller has just looked at it.
+
     /// Reads the one token of a formula that has no other part than this.
     pub(crate) fn read_single(&mut self, part: Part) -> Result<u8, Refusal<PropertyFault>>
         requires inside { self.old.tokens.at < length self.old.tokens.text.now }

@@ -10,6 +10,7 @@ use crate::fields::Fields;
 use refusal::Refusal;
 
 /// What follows the mark.
+// The mark's bytes are told apart by a slice pattern, whose arms have no test that could be handed to `demand`.
 fn after_mark(bytes: &[u8]) -> Result<&[u8], Refusal<FileFault>>
     ensures { MatchResult result
         (λ body. bytes.now ≡ marked body.now)

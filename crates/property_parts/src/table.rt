@@ -39,6 +39,8 @@ impl PartTable {
         self.count
     }
 
+    // Parts are asked for by number, since their truth is worked out over the numbers: so the bound stands where one is asked for.
+
     /// The part of that number.
     pub fn part(&self, number: usize) -> Part
         requires { number < self.now.count }

@@ -13,6 +13,7 @@ fn space_count(bytes: &[u8]) -> usize
 }
 
 /// The first place from there on that has no space.
+// A function of a text and a place, since it is needed before there are tokens.
 #[tactic(auto, unfolding(crate::specs::Tokens::past))]
 pub(crate) fn past_spaces(text: &[u8], from: usize) -> usize
     requires { from ≤ length text.now }
