@@ -29,10 +29,9 @@ fn chain_of(body: &[u8]) -> PackedChain<'_>
     requires { Faultless body.now }
     ensures { result.body.now ≡ body.now }
 {
-    let states = get(body, 0, 10) as usize + 1;
     let denominator = get(body, 10, 16);
     let start = get(body, 10 + 16, 10) as usize;
-    let (rows, edges) = find_rows(body, states);
+    let (rows, edges) = find_rows(body);
     PackedChain {
         body,
         rows,

@@ -1,7 +1,7 @@
 //! Where the rows of a body begin.
 ghost use Rattle.std.specs.Prelude.{◌≡◌};
 ghost use Rattle.chain.specs.Questions.{edge_total};
-ghost use Rattle.packed_file.specs.Format.{decoded, states_in};
+ghost use Rattle.packed_file.specs.Format.{decoded};
 ghost use Rattle.packed_file.specs.Judgement.{Faultless};
 ghost use Rattle.packed_chain.specs.Places.{row_places, Found};
 
@@ -11,12 +11,12 @@ use bits::fields::get;
 use chain::MOST_STATES;
 
 /// Where each row begins, and how many edges there are in all.
-pub(crate) fn find_rows(body: &[u8], states: usize) -> (ArrayVec<u32, MOST_STATES>, usize)
-    requires faultless { Faultless body.now }
-    requires counted { states ≡ states_in body.now }
+pub(crate) fn find_rows(body: &[u8]) -> (ArrayVec<u32, MOST_STATES>, usize)
+    requires { Faultless body.now }
     ensures placed { result.0.items ≡ row_places body.now }
     ensures summed { result.1 ≡ edge_total (decoded body.now) }
 {
+    let states = get(body, 0, 10) as usize + 1;
     let mut rows = ArrayVec::new();
     let mut at = 10 + 16 + 10;
     let mut edges = 0;
