@@ -17,6 +17,7 @@ use packed_file::faultless_body;
 static BUILT_IN: [u8; 12] = [0, 0, 0, 0x40, 0, 0, 0, 2, 0, 0, 0, 0x80];
 
 /// What follows the mark in the file, or in that of the built-in chain where the file has a fault.
+// That a body has no fault is carried by `PackedChain`; a type for the body alone would be made and taken apart in `new`.
 fn body_or_built_in(bytes: &[u8]) -> &[u8]
     ensures faultless { Faultless result.now }
     ensures meaning { decoded result.now ≡ taken_up bytes.now }
@@ -24,29 +25,22 @@ fn body_or_built_in(bytes: &[u8]) -> &[u8]
     faultless_body(bytes).unwrap_or(&BUILT_IN)
 }
 
-/// The chain of a body without a fault.
-fn chain_of(body: &[u8]) -> PackedChain<'_>
-    requires { Faultless body.now }
-    ensures { result.body.now ≡ body.now }
-{
-    let denominator = get(body, 10, 16);
-    let start = get(body, 10 + 16, 10) as usize;
-    let (rows, edges) = find_rows(body);
-    PackedChain {
-        body,
-        rows,
-        edges,
-        denominator,
-        start,
-    }
-}
-
 impl<'a> PackedChain<'a> {
     /// Takes up a file: its chain, or the built-in chain where the file has a fault.
     pub fn new(bytes: &'a [u8]) -> PackedChain<'a>
         ensures { meaning_of result ≡ taken_up bytes.now }
     {
-        chain_of(body_or_built_in(bytes))
+        let body = body_or_built_in(bytes);
+        let denominator = get(body, 10, 16);
+        let start = get(body, 10 + 16, 10) as usize;
+        let (rows, edges) = find_rows(body);
+        PackedChain {
+            body,
+            rows,
+            edges,
+            denominator,
+            start,
+        }
     }
 }
 

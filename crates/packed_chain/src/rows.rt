@@ -11,6 +11,7 @@ use bits::fields::get;
 use chain::MOST_STATES;
 
 /// Where each row begins, and how many edges there are in all.
+// Fields are read at their places and not from the front: a question has to take a time that does not depend on the number of states.
 pub(crate) fn find_rows(body: &[u8]) -> (ArrayVec<u32, MOST_STATES>, usize)
     requires { Faultless body.now }
     ensures placed { result.0.items ≡ row_places body.now }

@@ -9,7 +9,7 @@ use Rattle.packed_file.specs.Format.{states_in, denominator_in}
 use Rattle.packed_file.specs.Faults.{Demands}
 
 -- The fields on which these demands are made were read: what is told is told of the demands,
--- and where they are met, the next field begins `width` bits further on.
+-- and where they are met, the next field begins `width` bits further on. After a refusal nobody reads on, and nothing is said of the place.
 pub record Reads {A : Type 0} (before after : Fields) (result : Result A (Refusal FileFault)) (demands : Demands) (value : A) (width : ℕ) : Type 0 where
   pub tells : result ≡ told demands value
   pub same : after.body ≡ before.body

@@ -44,6 +44,7 @@ impl<'a> Fields<'a> {
     }
 
     /// The next field, of `width` bits.
+    // Why a width is no type of its own: see `bits::fields`.
     pub(crate) fn take(&mut self, width: usize) -> Result<u32, Refusal<FileFault>>
         requires { width ≤ 16 }
         ensures bound { IfOk result (λ value. value < 2 ^ width) }

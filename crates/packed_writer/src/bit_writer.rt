@@ -21,6 +21,7 @@ impl<'a> BitWriter<'a> {
     }
 
     /// Writes the field `value` of `width` bits.
+    // Why a width and a value are no type of their own: see `bits::fields`.
     pub(crate) fn put(&mut self, width: usize, value: u32)
         requires narrow { width ≤ 16 }
         requires fits { value < 2 ^ width }

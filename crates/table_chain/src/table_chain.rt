@@ -10,7 +10,7 @@ use tables::Tables;
 #[derive(Drop)]
 pub struct TableChain<'a> {
     pub(crate) tables: Tables<'a>,
-    // where the edges of each state begin
+    // where the edges of each state begin: four bytes for a state, where a slice of its edges would take sixteen
     pub(crate) firsts: ArrayVec<u32, MOST_STATES>,
     ghost faultless: { Faultless tables },
     ghost placed: { firsts.items ≡ first_edges 0 tables.rows.now },

@@ -34,6 +34,8 @@ impl<'a> Tables<'a> {
         demand(self.start < states, TableFault::StartOutside, 0)
     }
 
+    // The edges that are left are handed along: a reader that owned them would owe in each clause that the tables stay the same.
+
     /// The next edge, of the state `state`; its target is at least `low`.
     fn next_edge(
         &self,
