@@ -46,6 +46,8 @@ impl FormulaReader<'_> {
         Ok(left)
     }
 
+    // A match on the operator, and no closure that `read_joined` is handed: the three readers call each other in a cycle, which is to show.
+
     /// Reads what the operator joins.
     #[cycle(formula)]
     fn read_item(&mut self, operator: Operator, deeper: usize) -> Result<u8, Refusal<PropertyFault>>

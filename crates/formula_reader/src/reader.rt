@@ -45,7 +45,7 @@ impl<'a> FormulaReader<'a> {
         })
     }
 
-    // That a token stands here is asked where a token is gone past: the caller has just looked at it.
+    // Three functions require that a token stands here: a type that carried the fact would be made and used up in one line.
 
     /// Reads the one token of a formula that has no other part than this.
     pub(crate) fn read_single(&mut self, part: Part) -> Result<u8, Refusal<PropertyFault>>

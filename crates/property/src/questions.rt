@@ -46,7 +46,7 @@ impl Property {
         self.parts.count()
     }
 
-    // Ground and goal are asked by two functions of a line each: one over a view of a part would owe the view an invariant.
+    // Two public functions of a line each: one that is told which of the two is meant would take an enum that nothing else needs.
 
     /// Whether a state with these propositions is in the ground; a is bit 0.
     pub fn ground_holds(&self, propositions: u16) -> bool

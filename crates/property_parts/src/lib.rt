@@ -7,6 +7,7 @@ mod parts;
 mod table;
 mod truths;
 
+pub use crate::form::PartForm;
 pub use crate::kinds::Kind;
 pub use crate::parts::Part;
 pub use crate::table::PartTable;

@@ -9,7 +9,8 @@ use crate::parts::Part;
 const MOST_PARTS: usize = 128;
 
 /// The parts of a property, in the order in which they were filled; each names only parts before it.
-/// An array and operands by number, since the library takes no heap: what is asked of a part is worked out by going down the numbers.
+/// An array, since a slot of the table is lent to be filled, by rule of the project;
+/// an operator names its operands by number, since the library takes no heap for a tree of boxes.
 #[derive(Drop)]
 pub struct PartTable {
     pub(crate) parts: [Part; MOST_PARTS],
@@ -39,7 +40,8 @@ impl PartTable {
         self.count
     }
 
-    // Parts are asked for by number, since their truth is worked out over the numbers: so the bound stands where one is asked for.
+    // Parts are asked for by number, since their truth is worked out over the numbers, by rule of the project: so the bound stands
+    // where one is asked for. The number is a `usize`, as it was: a narrower type would ask more of callers.
 
     /// The part of that number.
     pub fn part(&self, number: usize) -> Part
