@@ -5,7 +5,7 @@ ghost use Rattle.std.specs.List.{prefix_len};
 ghost use Rattle.property_text.specs.Tokens.{digits, worth};
 
 /// How many spaces the bytes begin with.
-// Apart from `digit_count`, since the check did not find either chain's value where its count is used, in `go_past` and in `leading_digits`.
+// It and `digit_count` are two, since the check does not find the value of such a chain where its count is used, in `go_past` and `leading_digits`.
 pub(crate) fn space_count(bytes: &[u8]) -> usize
     ensures value { result ≡ prefix_len (λ b. b == 32) bytes.now }
     ensures within { result ≤ length bytes.now }
