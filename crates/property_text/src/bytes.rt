@@ -1,27 +1,16 @@
-//! What a text has at a place: spaces, and digits.
+//! What bytes begin with: spaces, and digits.
 ghost use Rattle.std.specs.Prelude.{◌≡◌, ◌≤◌, ◌==◌, length};
 ghost use Rattle.std.specs.Char.{is_ascii_digit};
 ghost use Rattle.std.specs.List.{prefix_len};
-ghost use Rattle.property_text.specs.Tokens.{digits, past, worth};
+ghost use Rattle.property_text.specs.Tokens.{digits, worth};
 
 /// How many spaces the bytes begin with.
-fn space_count(bytes: &[u8]) -> usize
+// It and `digit_count` are two, since the check does not find the value of such a chain where its count is used, in `go_past` and `leading_digits`.
+pub(crate) fn space_count(bytes: &[u8]) -> usize
     ensures value { result ≡ prefix_len (λ b. b == 32) bytes.now }
     ensures within { result ≤ length bytes.now }
 {
     bytes.iter().take_while(|byte| **byte == b' ').count()
-}
-
-/// The first place from there on that has no space.
-// A function of a text and a place, since it is needed before there are tokens.
-#[tactic(auto, unfolding(crate::specs::Tokens::past))]
-pub(crate) fn past_spaces(text: &[u8], from: usize) -> usize
-    requires { from ≤ length text.now }
-    ensures value { result ≡ past text.now from }
-    ensures later { from ≤ result }
-    ensures within { result ≤ length text.now }
-{
-    from + space_count(&text[from..])
 }
 
 /// How many digits the bytes begin with.

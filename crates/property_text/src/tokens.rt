@@ -1,7 +1,7 @@
 //! The tokens of a text, one by one from its front.
 ghost use Rattle.std.specs.Prelude.{◌≤◌, length};
 
-use crate::bytes::{leading_digits, number_written, past_spaces};
+use crate::bytes::{leading_digits, number_written, space_count};
 use crate::fault::PropertyFault;
 use refusal::{Refusal, demand};
 
@@ -26,10 +26,9 @@ impl<'a> Tokens<'a> {
         ensures text { result.text.now ≡ text.now }
         ensures at { result.at ≡ past text.now 0 }
     {
-        Tokens {
-            text,
-            at: past_spaces(text, 0),
-        }
+        let mut tokens = Tokens { text, at: 0 };
+        tokens.go_past(0);
+        tokens
     }
 
     /// Where the next token begins, or should.
@@ -70,7 +69,19 @@ impl<'a> Tokens<'a> {
         ensures later { self.old.at < self.new.at }
         ensures text { self.new.text ≡ self.old.text }
     {
-        self.at = past_spaces(self.text, self.at + 1);
+        self.go_past(1);
+    }
+
+    /// Goes past the next `count` bytes, and past the spaces behind them.
+    #[tactic(auto, unfolding(crate::specs::Tokens::past))]
+    fn go_past(&mut self, count: usize)
+        requires { self.old.at + count ≤ length self.old.text.now }
+        ensures at { self.new.at ≡ past self.old.text.now (self.old.at + count) }
+        ensures later { self.old.at + count ≤ self.new.at }
+        ensures text { self.new.text ≡ self.old.text }
+    {
+        self.at += count;
+        self.at += space_count(self.rest());
     }
 
     /// The text from the next token on.
@@ -91,7 +102,7 @@ impl<'a> Tokens<'a> {
             PropertyFault::TokenMissing,
             self.at,
         )?;
-        self.at = past_spaces(self.text, self.at + token.len());
+        self.go_past(token.len());
         Ok(())
     }
 
@@ -122,7 +133,7 @@ impl<'a> Tokens<'a> {
             PropertyFault::BadNumber,
             self.at,
         )?;
-        self.at = past_spaces(self.text, self.at + written.len());
+        self.go_past(written.len());
         Ok(number_written(written))
     }
 }
