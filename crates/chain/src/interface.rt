@@ -8,6 +8,9 @@ pub trait Chain {
     // the Markov chain that a value stands for
     ghost meaning: { Self → Markov };
 
+    // what every implementation proves of its meaning; above the functions, so that it is known behind a `dyn` too
+    ghost lawful: { (c : Self) → Lawful (meaning c) };
+
     /// How many states there are; they are numbered from 0.
     fn states(&self) -> usize
         ensures { result ≡ state_total (meaning self.now) };
@@ -35,7 +38,4 @@ pub trait Chain {
     /// The target and the weight of the edge at a place of a state's row.
     fn edge(&self, state: usize, place: usize) -> Option<(usize, u32)>
         ensures { result ≡ edge_of (meaning self.now) state place };
-
-    // what every implementation proves of its meaning
-    ghost lawful: { (c : Self) → Lawful (meaning c) };
 }

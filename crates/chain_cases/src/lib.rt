@@ -3,7 +3,10 @@
 
 #[cfg(test)]
 mod alike;
+mod behind;
 #[cfg(test)]
 mod faults;
 #[cfg(test)]
 mod makes;
+
+pub use crate::behind::denominator_of;
