@@ -1,5 +1,5 @@
 -- A loop that reads items joined by an operator: what the whole gives is what the rest gives.
-use Rattle.std.proofs.Common.{◌≡◌, ℕ, zero, suc, ◌+◌, ◌<◌, ◌≤◌, true, false, eqb, ltb, Option, Some, None, List, [], ◌∷◌, ◌++◌, get_or, Ok, Err, sym, refl, ap, ◌∙◌, append_assoc, arith}
+use Rattle.std.proofs.Common.{◌≡◌, ℕ, zero, suc, ◌+◌, ◌<◌, ◌≤◌, true, false, eqb, ltb, Option, Some, None, List, [], ◌∷◌, ◌++◌, length, get_or, Ok, Err, sym, refl, ap, ◌∙◌, append_assoc, arith}
 use Rattle.std.proofs.lemmas.Bool.{lt-ltb, le-ltb, eq-eqb, eqb-true, ne_eqb, both_ways}
 use Rattle.std.specs.Option.{option_eq, unwrap_or}
 use Rattle.refusal.specs.declared.Refusal.{Refusal}
@@ -9,6 +9,7 @@ use Rattle.property_parts.specs.declared.parts.Part.{Part}
 use Rattle.property_parts.specs.declared.table.PartTable.{PartTable}
 use Rattle.property_text.specs.Faults.{refused, ◌>>=◌}
 use Rattle.property_text.specs.Tokens.{past}
+use Rattle.property_text.proofs.Places.{inside}
 use Rattle.property_text.specs.declared.fault.PropertyFault.{PropertyFault}
 use Rattle.property_text.specs.declared.fault.PropertyFault.TheVariants.{TooManyParts}
 use Rattle.formula_reader.specs.Operators.{sign, join, part}
@@ -71,9 +72,14 @@ sign_some And = omega arith
 sign_some Or = omega arith
 
 pub behind : {s t u : List ℕ} {o : Operator} {i j : ℕ} (byte : Option ℕ) → t ≡ s → get_or t i 0 ≡ unwrap_or byte 0 → true ≡ option_eq eqb byte (Some (sign o))
-    → u ≡ t → j ≡ past t (i + 1) → Behind s o i u j
-behind {o = o} byte e f h k l =
-    rw (sym e) (record { here = f ∙ eqb-true _ _ (sym (h ∙ byte_test byte (sign o) (sign_some o))); same = k; next = l })
+    → u ≡ t → (i < length t → j ≡ past t (i + 1)) → Behind s o i u j
+behind {t = t} {o = o} {i = i} byte e f h k l =
+    let here : get_or t i 0 ≡ sign o = f ∙ eqb-true _ _ (sym (h ∙ byte_test byte (sign o) (sign_some o))) in
+    let next = l (inside t i (sign o) here (sign_some o)) in
+    rw (sym e) (record { here = here; same = k; next = next })
+
+pub operator_inside : {s u : List ℕ} {o : Operator} {i j : ℕ} → Behind s o i u j → i < length s
+operator_inside {s = s} {o = o} {i = i} b = inside s i (sign o) b.here (sign_some o)
 
 pub not_behind : {s t : List ℕ} (o : Operator) (i : ℕ) (byte : Option ℕ) → t ≡ s → get_or t i 0 ≡ unwrap_or byte 0 → false ≡ option_eq eqb byte (Some (sign o))
     → get_or s i 0 ≡ sign o → ⊥

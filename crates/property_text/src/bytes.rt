@@ -1,8 +1,11 @@
 //! What bytes begin with: spaces, and digits.
-ghost use Rattle.std.specs.Prelude.{◌≡◌, ◌≤◌, ◌==◌, length};
+ghost use Rattle.std.specs.Prelude.{◌≡◌, ◌≤◌, ◌==◌, length, take};
 ghost use Rattle.std.specs.Char.{is_ascii_digit};
 ghost use Rattle.std.specs.List.{prefix_len};
 ghost use Rattle.property_text.specs.Tokens.{digits, worth};
+
+/// One more than a number may have: enough to know that it has too many.
+const DIGITS_LOOKED_AT: usize = 6;
 
 /// How many spaces the bytes begin with.
 // It and `digit_count` are two, since the check does not find the value of such a chain where its count is used, in `go_past` and `leading_digits`.
@@ -24,13 +27,14 @@ fn digit_count(bytes: &[u8]) -> usize
         .count()
 }
 
-/// The digits that the bytes begin with.
+/// The digits that the bytes begin with, or the first six of them.
 pub(crate) fn leading_digits(bytes: &[u8]) -> &[u8]
-    ensures digits { digits result.now ≡ digits bytes.now }
+    ensures digits { digits result.now ≡ take 6 (digits bytes.now) }
     ensures all { prefix_len is_ascii_digit result.now ≡ length result.now }
     ensures within { length result.now ≤ length bytes.now }
 {
-    &bytes[..digit_count(bytes)]
+    let front = &bytes[..DIGITS_LOOKED_AT.min(bytes.len())];
+    &front[..digit_count(front)]
 }
 
 /// The number that so many digits write.

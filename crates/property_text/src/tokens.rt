@@ -14,7 +14,7 @@ pub struct Tokens<'a> {
 }
 
 impl<'a> Tokens<'a> {
-    ghost use Rattle.std.specs.Prelude.{◌≡◌, ◌+◌, ◌<◌, ◌==◌, drop, cond, nat_eq, Ok, slice_index};
+    ghost use Rattle.std.specs.Prelude.{◌≡◌, ◌+◌, ◌<◌, ◌==◌, drop, cond, nat_eq, Ok, OnOk, slice_index};
     ghost use Rattle.std.specs.List.{slice_get, starts_with};
     ghost use Rattle.std.specs.Option.{unwrap_or};
     ghost use Rattle.property_text.specs.Faults.{ended, refused, up_to};
@@ -22,6 +22,8 @@ impl<'a> Tokens<'a> {
     ghost use Rattle.property_text.specs.Tokens.{past, byte as byte-token, at_most, number};
 
     /// From the first token of the text on.
+    // Not inlined: LLVM would carry all that the reader does later through the loop over the spaces in front.
+    #[inline(never)]
     pub fn new(text: &'a [u8]) -> Tokens<'a>
         ensures text { result.text.now ≡ text.now }
         ensures at { result.at ≡ past text.now 0 }
@@ -62,14 +64,16 @@ impl<'a> Tokens<'a> {
         }
     }
 
-    /// Goes past the next byte, and past the spaces behind it.
+    /// Goes past the next byte, and past the spaces behind it; stays at the end.
     pub fn advance(&mut self)
-        requires { self.old.at < length self.old.text.now }
-        ensures at { self.new.at ≡ past self.old.text.now (self.old.at + 1) }
-        ensures later { self.old.at < self.new.at }
+        ensures at { self.old.at < length self.old.text.now → self.new.at ≡ past self.old.text.now (self.old.at + 1) }
+        ensures later { self.old.at < length self.old.text.now → self.old.at < self.new.at }
+        ensures end { self.old.at ≡ length self.old.text.now → self.new.at ≡ self.old.at }
         ensures text { self.new.text ≡ self.old.text }
     {
-        self.go_past(1);
+        if self.at < self.text.len() {
+            self.go_past(1);
+        }
     }
 
     /// Goes past the next `count` bytes, and past the spaces behind them.
@@ -107,9 +111,11 @@ impl<'a> Tokens<'a> {
     }
 
     /// Reads a token of one byte.
+    #[tactic(auto, unfolding(crate::specs::Tokens::past))]
     pub fn read_byte(&mut self, token: u8) -> Result<(), Refusal<PropertyFault>>
         requires { 0 < token }
-        ensures { Reads self.old self.new (ended self.new.at result) (byte-token self.old.text.now token self.old.at) }
+        ensures read { Reads self.old self.new (ended self.new.at result) (byte-token self.old.text.now token self.old.at) }
+        ensures later { OnOk result (self.old.at < self.new.at) }
     {
         self.read_token(&[token])
     }

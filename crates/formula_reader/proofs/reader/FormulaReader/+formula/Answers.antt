@@ -1,4 +1,4 @@
-use Rattle.std.proofs.Common.{◌≡◌, ltb, get_or, sym, refl, ap, ◌∙◌, arith}
+use Rattle.std.proofs.Common.{◌≡◌, ltb, length, get_or, sym, refl, ap, ◌∙◌, arith}
 use Rattle.std.proofs.lemmas.Bool.{ltb-true}
 use Rattle.std.proofs.lemmas.Result.{err_from_is_err_and}
 use Rattle.property_parts.specs.Formula.{top, bottom}
@@ -7,7 +7,7 @@ use Rattle.property_text.specs.Faults.{refused}
 use Rattle.property_text.specs.declared.fault.PropertyFault.TheVariants.{TooManyParts}
 use Rattle.property_text.proofs.Read.{test_ok}
 use Rattle.formula_reader.specs.Reading.{single, nested, factor, item}
-use Rattle.formula_reader.proofs.Going.{behind, not_behind, going_start, going_on, loop_end, loop_bad, loop_full}
+use Rattle.formula_reader.proofs.Going.{behind, operator_inside, not_behind, going_start, going_on, loop_end, loop_bad, loop_full}
 use Rattle.formula_reader.proofs.Steps.{answers_as, answers_single, factor_top, factor_bottom, nested_refused, inside_bad, inside_unclosed, inside_closed}
 use Rattle.formula_reader.proofs.reader.FormulaReader.+formula.Goals as goal
 
@@ -64,11 +64,13 @@ pub read_joined-loop-operator-preserved : goal.read_joined-loop-operator-preserv
 read_joined-loop-operator-preserved t c =
     let o = c.args.operator in
     let b = behind c.byte.result (ap (λ x. x.now) c.loop-operator.invariant.text) c.byte.ensures.stands (rw c.sign.ensures at c.loop-operator-test.ensures) (ap (λ x. x.now) c.advance.ensures.text) c.advance.ensures.at in
+    let text = ap (λ x. length x.now) c.loop-operator.invariant.text in
+    let forward = c.advance.ensures.later (omega (arith, operator_inside b, text)) in
     let l = c.in_ok-right.ensures.later in
     rw c.in_ok-left-2.ensures.tokens (record {
       goes = λ n a before f g p.
           going_on _ o (λ s. item s most_parts o c.args.deeper) (c.loop-operator.invariant.goes n a before f g p) c.loop-operator.self.parts.few b c.in_ok-right.ensures.tells c.part.ensures c.in_ok-left-2.ensures.filled;
-      later = omega arith;
+      later = omega (arith, forward);
       text = c.in_ok-right.ensures.same ∙ (c.advance.ensures.text ∙ c.loop-operator.invariant.text);
     })
 
@@ -96,7 +98,7 @@ read_nested-returns-in_err-number t c =
     let deeper = ltb-true 0 c.args.deeper (test_ok _ (ltb 0 c.args.deeper) _ (sym c.in_ok-demand.ensures)).0 in
     let p = err_from_is_err_and c.from_residual-in_err-number.result c.from_residual-in_err-number.ensures.1 in
     rw (p.1, p.2) (record {
-      tells = inside_bad _ most_parts _ _ c.args.deeper deeper (ap (λ x. x.now) c.advance.ensures.text) c.advance.ensures.at c.in_err-number.ensures.tells;
+      tells = inside_bad _ most_parts _ _ c.args.deeper deeper (ap (λ x. x.now) c.advance.ensures.text) (c.advance.ensures.at c.requires) c.in_err-number.ensures.tells;
       same = c.in_err-number.ensures.same ∙ c.advance.ensures.text;
       later = tt;
     })
@@ -107,8 +109,8 @@ read_nested-returns-in_err-read_byte t c =
     let m = c.in_ok-number.ensures.tells in
     let p = err_from_is_err_and c.from_residual-in_err-read_byte.result c.from_residual-in_err-read_byte.ensures.1 in
     rw (p.1, p.2) (record {
-      tells = inside_unclosed _ most_parts _ _ c.args.deeper deeper (ap (λ x. x.now) c.advance.ensures.text) c.advance.ensures.at (ap (λ x. x.now) c.in_ok-number.ensures.same) m.formula _ m.read c.in_err-read_byte.ensures.tells;
-      same = c.in_err-read_byte.ensures.same ∙ (c.in_ok-number.ensures.same ∙ c.advance.ensures.text);
+      tells = inside_unclosed _ most_parts _ _ c.args.deeper deeper (ap (λ x. x.now) c.advance.ensures.text) (c.advance.ensures.at c.requires) (ap (λ x. x.now) c.in_ok-number.ensures.same) m.formula _ m.read c.in_err-read_byte.ensures.read.tells;
+      same = c.in_err-read_byte.ensures.read.same ∙ (c.in_ok-number.ensures.same ∙ c.advance.ensures.text);
       later = tt;
     })
 
@@ -119,11 +121,11 @@ read_nested-returns t c =
     record {
       tells = record {
         formula = m.formula;
-        read = inside_closed _ most_parts _ _ c.args.deeper deeper (ap (λ x. x.now) c.advance.ensures.text) c.advance.ensures.at (ap (λ x. x.now) c.in_ok-number.ensures.same) m.formula _ m.read _ c.in_ok-read_byte.ensures.tells;
+        read = inside_closed _ most_parts _ _ c.args.deeper deeper (ap (λ x. x.now) c.advance.ensures.text) (c.advance.ensures.at c.requires) (ap (λ x. x.now) c.in_ok-number.ensures.same) m.formula _ m.read _ c.in_ok-read_byte.ensures.read.tells;
         own = m.own;
         count = m.count;
         parts = m.parts;
       };
-      same = c.in_ok-read_byte.ensures.same ∙ (c.in_ok-number.ensures.same ∙ c.advance.ensures.text);
+      same = c.in_ok-read_byte.ensures.read.same ∙ (c.in_ok-number.ensures.same ∙ c.advance.ensures.text);
       later = omega (arith, c.in_ok-number.ensures.later, c.in_ok-read_byte.ensures.later);
     }
