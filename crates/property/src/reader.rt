@@ -11,6 +11,7 @@ use crate::ceiling::Ceiling;
 use crate::limits::{MOST_BYTES, MOST_HOPS, MOST_LOWER, MOST_OPEN};
 use crate::property::Property;
 use formula_reader::FormulaReader;
+use property_parts::PartTable;
 use property_text::{PropertyFault, Tokens};
 use refusal::{Refusal, demand};
 
@@ -87,8 +88,12 @@ impl Property {
             PropertyFault::TextTooLong,
             MOST_BYTES,
         )?;
-        let mut reader = FormulaReader::new(text);
-        let ceiling = read_opening(&mut reader.tokens)?;
+        let mut tokens = Tokens::new(text);
+        let ceiling = read_opening(&mut tokens)?;
+        let mut reader = FormulaReader {
+            tokens,
+            parts: PartTable::new(),
+        };
         let ground_part = reader.read_state(MOST_OPEN)?;
         let hop_bound = read_until(&mut reader.tokens)?;
         let goal_part = reader.read_state(MOST_OPEN)?;

@@ -28,7 +28,8 @@ impl PartTable {
         ensures { result.count ≡ 0 }
     {
         PartTable {
-            parts: [Part::False; MOST_PARTS],
+            // the part whose bytes are zeros, with which the slots are cleared at once
+            parts: [Part::Letter(0); MOST_PARTS],
             count: 0,
         }
     }

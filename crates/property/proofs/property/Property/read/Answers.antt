@@ -21,7 +21,7 @@ returns-in_err-ceiling c =
 pub returns-in_err-ground_part : goal.returns-in_err-ground_part
 unfolding read
 returns-in_err-ground_part c =
-    let none = c.new-reader.ensures.empty in
+    let none = c.new.ensures in
     let ground = c.in_err-ground_part.ensures.tells in
     let p = err_from_is_err_and c.from_residual-in_err-ground_part.result c.from_residual-in_err-ground_part.ensures.1 in
     rw (p.1, p.2) (refused c.args.text.now c.in_err-ground_part.field-0.0 (search rules))
@@ -29,7 +29,7 @@ returns-in_err-ground_part c =
 pub returns-in_err-hop_bound : goal.returns-in_err-hop_bound
 unfolding read
 returns-in_err-hop_bound c =
-    let none = c.new-reader.ensures.empty in
+    let none = c.new.ensures in
     let ground = c.in_ok-ground_part.ensures.tells.read in
     let p = err_from_is_err_and c.from_residual-in_err-hop_bound.result c.from_residual-in_err-hop_bound.ensures.1 in
     rw (p.1, p.2) (refused c.args.text.now c.in_err-hop_bound.field-0.0 (search rules))
@@ -38,14 +38,15 @@ pub returns-in_err-goal_part : goal.returns-in_err-goal_part
 returns-in_err-goal_part c =
     let s = c.args.text.now in
     let short : length s ≤ most_bytes = search rules in
-    let begin = c.new-reader.ensures in
+    let begin = c.new-tokens.ensures in
+    let none = c.new.ensures in
     let text₁ = c.in_ok-ceiling.ensures.read.same in
     let text₂ = c.in_ok-ground_part.ensures.same in
     let text₃ = c.in_ok-hop_bound.ensures.read.same in
     let made = c.in_ok-ground_part.ensures.tells in
-    let filled : c.read_state.new.self.parts.count ≡ size made.formula = omega (arith, made.count, begin.empty) in
+    let filled : c.read_state.new.self.parts.count ≡ size made.formula = omega (arith, made.count, none) in
     let opened = rw (begin.text, begin.at) at c.in_ok-ceiling.ensures.read.tells in
-    let ground = rw (text₁, begin.text, begin.empty) at made.read in
+    let ground = rw (text₁, begin.text, none) at made.read in
     let until = rw (text₂, text₁, begin.text) at c.in_ok-hop_bound.ensures.read.tells in
     let refused_goal = rw (text₃, text₂, text₁, begin.text, filled) at c.in_err-goal_part.ensures.tells in
     let p = err_from_is_err_and c.from_residual-in_err-goal_part.result c.from_residual-in_err-goal_part.ensures.1 in
@@ -55,7 +56,7 @@ pub returns-in_err-read_closing : goal.returns-in_err-read_closing
 unfolding read
 returns-in_err-read_closing c =
     let made = c.in_ok-ground_part.ensures.tells in
-    let none = c.new-reader.ensures.empty in
+    let none = c.new.ensures in
     let ground = made.read in
     let filled : c.read_state.new.self.parts.count ≡ size made.formula = omega (arith, made.count) in
     let goal_formula = c.in_ok-goal_part.ensures.tells.read in
@@ -66,7 +67,7 @@ pub returns-clause-value : goal.returns-clause-value
 unfolding read
 returns-clause-value c =
     let made = c.in_ok-ground_part.ensures.tells in
-    let none = c.new-reader.ensures.empty in
+    let none = c.new.ensures in
     let ground = made.read in
     let filled : c.read_state.new.self.parts.count ≡ size made.formula = omega (arith, made.count) in
     let goal_formula = c.in_ok-goal_part.ensures.tells.read in
