@@ -1,20 +1,11 @@
 -- A field that is written as whole bytes.
-use Rattle.std.proofs.Common.{◌≡◌, ℕ, zero, suc, refl, ◌+◌, ◌-◌, ◌*◌, ◌/◌, ◌%◌, ◌^◌, ◌<◌, List, [], ◌∷◌, get_or, sym, ap, ◌∙◌, inl, inr, add_comm, arith, pow-add, shl_lt, shr-shr, shr_lt}
-use Rattle.std.specs.Int.{w32, to_be_bytes}
+use Rattle.std.proofs.Common.{◌≡◌, ℕ, ◌+◌, ◌-◌, ◌*◌, ◌/◌, ◌%◌, ◌^◌, ◌<◌, List, [], ◌∷◌, get_or, sym, ap, ◌∙◌, inl, inr, add_comm, arith, pow-add, shl_lt, shr-shr, shr_lt}
 use lib.Arith.{digits_lt}
 use lib.Pow.{high, low, shl-shr}
 use Rattle.std.proofs.lemmas.Bool.{cases_lt}
 use Rattle.bits.specs.Fields.{field}
 use Rattle.bits.specs.Wrote.{Stored, Wrote}
 use Rattle.bits.proofs.Whole.{field_bits, field_byte, field_bytes, field_part}
-
--- the byte at a place of a number's four, the highest of them first
-pub byte_of : (n j : ℕ) → j < 4 → get_or (to_be_bytes w32 n) j 0 ≡ n / 2 ^ (8 * (3 - j)) % 256
-byte_of n zero h = refl
-byte_of n (suc zero) h = refl
-byte_of n (suc (suc zero)) h = refl
-byte_of n (suc (suc (suc zero))) h = omega arith
-byte_of n (suc (suc (suc (suc j)))) h = absurd (omega arith)
 
 module _ (xs ys : List ℕ) (at w v b n fill word : ℕ) (fits : v < 2 ^ w) (byte : b ≡ get_or xs (at / 8) 0) (small : b < 256)
     (whole : at % 8 + w + fill ≡ 8 * n) (few : fill < 8) (is : word ≡ (b / 2 ^ (8 - at % 8) * 2 ^ w + v) * 2 ^ fill) (stored : Stored xs ys (at / 8) n word) where

@@ -49,7 +49,14 @@ fn store(bytes: &mut [u8], first: usize, count: usize, word: u32)
     requires within { first + count ≤ length bytes.old }
     ensures { Stored bytes.old bytes.new first count word }
 {
-    bytes[first..first + count].copy_from_slice(&word.to_be_bytes()[4 - count..]);
+    let part = &mut bytes[first..first + count];
+    let [_, high, middle, low] = word.to_be_bytes();
+    match count {
+        0 => {}
+        1 => part.copy_from_slice(&[low]),
+        2 => part.copy_from_slice(&[middle, low]),
+        _ => part.copy_from_slice(&[high, middle, low]),
+    }
 }
 
 /// Writes the field `value` of `width` bits at the bit `at`. The bits after it in its last byte become 0.
