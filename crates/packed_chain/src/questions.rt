@@ -8,6 +8,7 @@ ghost use Rattle.packed_file.specs.TakenUp.{taken_up};
 
 use crate::packed_chain::PackedChain;
 use crate::rows::find_rows;
+use arrayvec::ArrayVec;
 use bits::fields::get;
 use bits::mirror::mirror;
 use chain::Chain;
@@ -33,7 +34,8 @@ impl<'a> PackedChain<'a> {
         let body = body_or_built_in(bytes);
         let denominator = get(body, 10, 16);
         let start = get(body, 10 + 16, 10) as usize;
-        let (rows, edges) = find_rows(body);
+        let mut rows = ArrayVec::new();
+        let edges = find_rows(body, &mut rows);
         PackedChain {
             body,
             rows,

@@ -1,5 +1,5 @@
 //! Where the rows of a body begin.
-ghost use Rattle.std.specs.Prelude.{◌≡◌};
+ghost use Rattle.std.specs.Prelude.{◌≡◌, []};
 ghost use Rattle.chain.specs.Questions.{edge_total};
 ghost use Rattle.packed_file.specs.Format.{decoded};
 ghost use Rattle.packed_file.specs.Judgement.{Faultless};
@@ -10,15 +10,15 @@ use arrayvec::ArrayVec;
 use bits::fields::get;
 use chain::MOST_STATES;
 
-/// Where each row begins, and how many edges there are in all.
+/// Finds where each row begins, and tells how many edges there are in all.
 // Fields are read at their places and not from the front: a question has to take a time that does not depend on the number of states.
-pub(crate) fn find_rows(body: &[u8]) -> (ArrayVec<u32, MOST_STATES>, usize)
-    requires { Faultless body.now }
-    ensures placed { result.0.items ≡ row_places body.now }
-    ensures summed { result.1 ≡ edge_total (decoded body.now) }
+pub(crate) fn find_rows(body: &[u8], rows: &mut ArrayVec<u32, MOST_STATES>) -> usize
+    requires faultless { Faultless body.now }
+    requires empty { rows.old.items ≡ [] }
+    ensures placed { rows.new.items ≡ row_places body.now }
+    ensures summed { result ≡ edge_total (decoded body.now) }
 {
     let states = get(body, 0, 10) as usize + 1;
-    let mut rows = ArrayVec::new();
     let mut at = 10 + 16 + 10;
     let mut edges = 0;
     for _ in 0..states {
@@ -27,7 +27,7 @@ pub(crate) fn find_rows(body: &[u8]) -> (ArrayVec<u32, MOST_STATES>, usize)
         at += 16 + 11 + 26 * count;
         edges += count as usize;
     }
-    (rows, edges)
+    edges
 }
 
 impl PackedChain<'_> {

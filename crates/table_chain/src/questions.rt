@@ -1,5 +1,5 @@
 //! Taking up tables, and the questions, answered from them.
-ghost use Rattle.std.specs.Prelude.{◌≡◌};
+ghost use Rattle.std.specs.Prelude.{◌≡◌, []};
 ghost use Rattle.table_chain.specs.Meaning.{meaning_of};
 ghost use Rattle.table_chain.specs.Places.{first_edges};
 ghost use Rattle.tables.specs.Faults.{Faultless};
@@ -38,18 +38,17 @@ fn faultless_or_built_in<'a>(tables: Tables<'a>) -> Tables<'a>
     }
 }
 
-/// Where the edges of each state begin.
-fn find_first_edges(tables: &Tables) -> ArrayVec<u32, MOST_STATES>
-    requires { Faultless tables.now }
-    ensures { result.items ≡ first_edges 0 tables.now.rows.now }
+/// Finds where the edges of each state begin.
+fn find_first_edges(tables: &Tables, firsts: &mut ArrayVec<u32, MOST_STATES>)
+    requires faultless { Faultless tables.now }
+    requires empty { firsts.old.items ≡ [] }
+    ensures { firsts.new.items ≡ first_edges 0 tables.now.rows.now }
 {
-    let mut firsts = ArrayVec::new();
     let mut first = 0;
     for row in tables.rows {
         firsts.push(first as u32);
         first += row.count;
     }
-    firsts
 }
 
 impl<'a> TableChain<'a> {
@@ -58,7 +57,8 @@ impl<'a> TableChain<'a> {
         ensures { meaning_of result ≡ taken_up tables.entry }
     {
         let tables = faultless_or_built_in(tables);
-        let firsts = find_first_edges(&tables);
+        let mut firsts = ArrayVec::new();
+        find_first_edges(&tables, &mut firsts);
         TableChain { tables, firsts }
     }
 }

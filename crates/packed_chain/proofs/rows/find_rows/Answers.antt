@@ -11,12 +11,12 @@ push-requires c = (lit< tt, room c.args.body.now c.loop.rows.items (c.get.result
 
 pub get-count-requires-clause-within : goal.get-count-requires-clause-within
 get-count-requires-clause-within c =
-    let row = within c.args.body.now c.loop.rows.items (c.get.result + 1) c.loop.counter c.loop.at c.loop-test.true c.requires c.loop.invariant.placed in
+    let row = within c.args.body.now c.loop.rows.items (c.get.result + 1) c.loop.counter c.loop.at c.loop-test.true c.requires.faultless c.loop.invariant.placed in
     omega (arith, row.inside)
 
 pub overflow_add-at-in-loop-4 : goal.overflow_add-at-in-loop-4
 overflow_add-at-in-loop-4 c =
-    let row = within c.args.body.now c.loop.rows.items (c.get.result + 1) c.loop.counter c.loop.at c.loop-test.true c.requires c.loop.invariant.placed in
+    let row = within c.args.body.now c.loop.rows.items (c.get.result + 1) c.loop.counter c.loop.at c.loop-test.true c.requires.faultless c.loop.invariant.placed in
     let near = row.near in
     let count = c.get-count.ensures.value in
     search rules
@@ -24,7 +24,7 @@ overflow_add-at-in-loop-4 c =
 pub overflow_add-edges : goal.overflow_add-edges
 overflow_add-edges c =
     let more = row_more c.args.body.now c.loop.rows.items (c.get.result + 1) c.loop.counter c.loop.at c.loop-test.true c.get-count.result c.get-count.ensures.value in
-    let few = (faultless_lawful c.args.body.now c.requires).sparse in
+    let few = (faultless_lawful c.args.body.now c.requires.faultless).sparse in
     let sum = c.loop.invariant.summed in
     let next = more.1 in
     search rules

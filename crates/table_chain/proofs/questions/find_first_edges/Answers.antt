@@ -10,13 +10,13 @@ use Rattle.table_chain.proofs.questions.find_first_edges.Goals as goal
 pub loop-row-init : goal.loop-row-init
 loop-row-init c =
     record {
-      noted = ap length c.new-firsts.ensures;
-      placed = ap (λ xs. xs ++ first_edges 0 c.args.tables.now.rows.now) c.new-firsts.ensures;
-      passed = omega (arith, whole c.args.tables.now c.requires);
+      noted = ap length c.requires.empty;
+      placed = ap (λ xs. xs ++ first_edges 0 c.args.tables.now.rows.now) c.requires.empty;
+      passed = omega (arith, whole c.args.tables.now c.requires.faultless);
     }
 
 pub overflow_cast-first : goal.overflow_cast-first
-overflow_cast-first c = let s = short c.args.tables.now c.requires in let p = c.loop-row.invariant.passed in search rules
+overflow_cast-first c = let s = short c.args.tables.now c.requires.faultless in let p = c.loop-row.invariant.passed in search rules
 
 pub loop-row-preserved : goal.loop-row-preserved
 unfolding first_edges
