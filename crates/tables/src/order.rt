@@ -1,5 +1,5 @@
 //! The check of tables, in the order of a file.
-ghost use Rattle.std.specs.Prelude.{◌≡◌, ◌+◌, ◌-◌, ◌*◌, ◌^◌, ◌<◌, ◌≤◌, length, drop, IfOk, OnOk};
+ghost use Rattle.std.specs.Prelude.{◌≡◌, ◌+◌, ◌-◌, ◌*◌, ◌^◌, ◌<◌, ◌≤◌, length, drop, Ok, Err, IfOk, OnOk, MatchResult};
 ghost use Rattle.std.specs.Slice.Iter.{iter_rest};
 ghost use Rattle.chain.specs.Limits.{most_states, most_edges};
 ghost use Rattle.chain.specs.Markov.{weight_sum};
@@ -37,14 +37,16 @@ impl<'a> Tables<'a> {
     // The edges that are left are handed along: a reader that owned them would owe in each clause that the tables stay the same.
 
     /// The next edge, of the state `state`; its target is at least `low`.
-    fn next_edge(
+    // By reference: the target of a copy would share a word with the fault, and each edge would pay for that.
+    fn next_edge<'e>(
         &self,
         state: usize,
-        edges: &mut slice::Iter<TableEdge>,
+        edges: &mut slice::Iter<'e, TableEdge>,
         low: usize,
-    ) -> Result<TableEdge, Refusal<TableFault>>
-        ensures bound { IfOk result (λ e. (e.target < length self.now.rows.now) × (e.weight < 2 ^ 32)) }
-        ensures told { result ≡ told (edge_demands self.now state (iter_rest edges.old) low) (next_edge (iter_rest edges.old)) }
+    ) -> Result<&'e TableEdge, Refusal<TableFault>>
+        ensures bound { IfOk result (λ e. (e.now.target < length self.now.rows.now) × (e.now.weight < 2 ^ 32)) }
+        ensures told { let answer = told (edge_demands self.now state (iter_rest edges.old) low) (next_edge (iter_rest edges.old)) in
+            MatchResult result (λ e. Ok e.now ≡ answer) (λ f. Err f ≡ answer) }
         ensures left { OnOk result (iter_rest edges.new ≡ drop 1 (iter_rest edges.old)) }
     {
         let edge = edges.next().ok_or(Refusal {
@@ -57,7 +59,7 @@ impl<'a> Tables<'a> {
             state,
         )?;
         demand(edge.weight > 0, TableFault::ZeroWeight, state)?;
-        Ok(*edge)
+        Ok(edge)
     }
 
     /// The sum of the weights of the next `count` edges.

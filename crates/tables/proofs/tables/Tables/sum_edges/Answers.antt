@@ -8,10 +8,10 @@ use Rattle.tables.proofs.tables.Tables.sum_edges.Goals as goal
 pub loop-preserved : goal.loop-preserved
 loop-preserved c =
     let left : iter_rest c.next_edge.new.edges ≡ drop 1 (iter_rest c.loop.edges) = c.in_ok-edge.ensures.left in
-    let weight : c.from-sum.result ≡ c.in_ok-edge.edge.weight = search rules in
+    let weight : c.from-sum.result ≡ c.in_ok-edge.edge.now.weight = search rules in
     let light = c.in_ok-edge.ensures.bound.1 in
     let turn = edges_turn c.args.self.now c.args.state (iter_rest c.loop.edges) (c.args.count - c.loop.counter) (c.args.count - (c.loop.counter + 1)) c.loop.low c.loop.sum
-    c.in_ok-edge.edge (omega arith) c.in_ok-edge.ensures.told in
+    c.in_ok-edge.edge.now (omega arith) c.in_ok-edge.ensures.told in
     record {
       decided = rw (left, weight) (c.loop.invariant.decided ∙ turn);
       walked = left ∙ ap (drop 1) c.loop.invariant.walked ∙ drop-drop 1 c.loop.counter (iter_rest c.args.edges.now);
