@@ -1,11 +1,12 @@
 //! What a caller may rest on of a chain behind a `dyn`: that it is lawful, as every chain is.
-ghost use Rattle.std.specs.Prelude.{◌≤◌};
+ghost use Rattle.std.specs.Prelude.{◌≡◌, ◌≤◌};
 
 use chain::Chain;
 
 /// The denominator of a chain of any kind, which is never 0.
 pub fn denominator_of(chain: &dyn Chain) -> u32
-    ensures { 1 ≤ result }
+    ensures value { result ≡ (meaning chain.now).denominator }
+    ensures some { 1 ≤ result }
 {
     chain.denominator()
 }
